@@ -1,0 +1,13 @@
+-- A choice by a test: the accounts of all crates decide by it.
+-- Assumes nothing.
+use mathlib.Core.Bool.{Bool, true, false}
+
+-- the first where the test holds, else the second
+abbrev pub pick : {A : Type 0} → Bool → A → A → A
+pick true a b = a
+pick false a b = b
+
+-- both tests hold
+abbrev pub both : Bool → Bool → Bool
+both true b = b
+both false b = false
