@@ -1,0 +1,5 @@
+pub mod Demand
+pub mod Play
+pub mod Steps
+pub mod Stretch
+pub mod Wave
