@@ -1,2 +1,4 @@
+pub mod Count
 pub mod Fine
+pub mod Stream
 pub mod Within
