@@ -1,4 +1,5 @@
 pub mod Count
 pub mod Fine
+pub mod Proved
 pub mod Stream
 pub mod Within

@@ -10,6 +10,7 @@ use native.Mathlib.Nat.{suc-add, add-suc, add-zero}
 use native.Mathlib.Omega.{arith}
 use lib.ListN.{length, take, drop, replicate}
 use lib.Seq.{drop-at}
+use borrow.Author.Tests.{le-ltb}
 use Rattle.laws.specs.Pick.{pick}
 use Rattle.dac.specs.declared.Pair.{Pair}
 use Rattle.dac.specs.declared.Dac.{Dac}
@@ -17,7 +18,8 @@ use Rattle.dac.specs.Wave.{period, pair, total, level}
 use Rattle.dac.specs.Steps.{keptHalf, keptPair, kept, afterReset, lowWritten, highWritten, playing, nextLevel, clocked, afterClocks, levelsOf}
 use Rattle.dac.specs.Play.{tooMany, afterPlay, levelsPlayed}
 use Rattle.dac.specs.Stretch.{wave}
-use Rattle.dac.specs.Demand.{Event, low, high, play, reset, step, puts, run, output, Moment, wroteLow, wroteHigh, clock, cleared, momentsOf, moments, lastLow, lastPair, since, clocks, unreset, Period, heard, Shares, Demand3, Unaltered}
+use Rattle.dac.specs.Demand.{Event, low, high, play, reset, step, puts, run, output, Moment, wroteLow, wroteHigh, clock, cleared, momentsOf, moments, lastLow, lastPair, since, clocks, unreset, Period, heard, Shares, Demand3, Unaltered, history, Playable}
+use Rattle.dac.specs.Theorems.{Placed}
 use Rattle.dac.proofs.Within.{pair-kept, first-plays, later-plays}
 use Rattle.dac.proofs.Count.{shares}
 
@@ -244,8 +246,44 @@ demand3 es h p rest P =
 pub unaltered : Unaltered
 unaltered es h p rest P es′ h′ p′ rest′ P′ e = is-wave es h p rest P ∙ ap (λ (q : Pair). wave q 0 period) e ∙ sym (is-wave es′ h′ p′ rest′ P′)
 
--- where a sequence from reset ends, by its history
-pub ends-at : (es : List Event) → kept (run es afterReset) .position ≡ since (reverse (moments es)) % period
-ends-at es =
-    ap (λ (d : Dac). kept d .position) (run-through es afterReset ∙ ap (λ (ms : List Moment). through ms afterReset) (sym (reverse-reverse (moments es))) ∙ through-history (reverse (moments es)))
-    ∙ known (reverse (moments es)) .place
+-- where a sequence from reset ends
+run-past : (es : List Event) → run es afterReset ≡ past (history es)
+run-past es = run-through es afterReset ∙ ap (λ (ms : List Moment). through ms afterReset) (sym (reverse-reverse (moments es))) ∙ through-history (history es)
+
+past-place : (h : List Moment) → past h .position ≡ since h % period
+unfolding past act since clocked
+past-place [] = refl
+past-place (wroteLow byte ∷ h) = omega (arith, past-place h)
+past-place (wroteHigh byte ∷ h) = omega (arith, past-place h)
+past-place (clock ∷ h) = omega (arith, past-place h)
+past-place (cleared ∷ h) = refl
+
+pub placed : Placed
+placed es = ap (λ (d : Dac). d .position) (run-past es) ∙ past-place (history es)
+
+-- a play of a whole period, where a period starts
+moments-append : (es fs : List Event) → moments (es ++ fs) ≡ moments es ++ moments fs
+unfolding moments
+moments-append [] fs = refl
+moments-append (e ∷ es) fs = ap (λ (l : List Moment). momentsOf e ++ l) (moments-append es fs) ∙ sym (append-assoc (momentsOf e) (moments es) (moments fs))
+
+all-clocks : (n : ℕ) → (clocks (replicate n clock) ≡ n) × (unreset (replicate n clock) ≡ true)
+unfolding clocks unreset
+all-clocks zero = (refl, refl)
+all-clocks (suc n) = (ap suc (all-clocks n .0), all-clocks n .1)
+
+whole-play : (room : ℕ) → period ≤ room → moments (play period room ∷ []) ≡ clock ∷ (replicate 16383 clock ++ [])
+unfolding moments momentsOf
+whole-play room h = rw (le-ltb room period h)
+
+one-more : (ms : List Moment) → clocks (clock ∷ ms) ≡ suc (clocks ms)
+unfolding clocks
+one-more ms = refl
+
+pub playable : Playable
+playable es room h s = record {
+  whole = moments-append es (play period room ∷ []) ∙ ap₂ (λ (a b : List Moment). a ++ b) (sym (reverse-reverse (moments es))) (whole-play room h);
+  starts = s;
+  unbroken = all-clocks 16383 .1;
+  ended = one-more (replicate 16383 clock) ∙ ap suc (all-clocks 16383 .0);
+}

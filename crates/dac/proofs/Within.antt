@@ -129,7 +129,7 @@ pair-kept q hc hf =
     let b : q .fine % 128 ≡ q .fine = omega arith in
     rw (a, b)
 
-keptPair-kept : (q : Pair) → keptPair (keptPair q) ≡ keptPair q
+pub keptPair-kept : (q : Pair) → keptPair (keptPair q) ≡ keptPair q
 keptPair-kept q = pair-kept (keptPair q) (omega arith) (omega arith)
 
 pub playing-kept : (d : Dac) → keptPair (playing (kept d)) ≡ playing (kept d)

@@ -1,7 +1,7 @@
 -- Demand 3, in words that never look into the running record: what a host does, what then happens clock by clock, and what is asked of every
 -- period that is played to its end. The record goes through `step` alone, whose cases are what the promises of the crate's functions cite.
 -- Assumes nothing.
-use Prim.Native.Nat.{ℕ, suc, _+_, _-_, _*_, _%_, _^_, _<_}
+use Prim.Native.Nat.{ℕ, suc, _+_, _-_, _*_, _%_, _^_, _<_, _≤_}
 use mathlib.Core.Path.{_≡_}
 use mathlib.Core.Bool.{Bool, true, false}
 use mathlib.Core.List.{List, [], _∷_, _++_, reverse}
@@ -57,7 +57,11 @@ unfoldable pub moments : List Event → List Moment
 moments [] = []
 moments (e ∷ es) = momentsOf e ++ moments es
 
--- A history is a list of moments, the latest first. The low half last written in it since its last reset, or 0:
+-- A history is a list of moments, the latest first.
+abbrev pub history : List Event → List Moment
+history es = reverse (moments es)
+
+-- the low half last written in it since its last reset, or 0
 unfoldable pub lastLow : List Moment → ℕ
 lastLow [] = 0
 lastLow (wroteLow byte ∷ h) = keptHalf byte
@@ -134,3 +138,9 @@ Unaltered =
     (es : List Event) (h p rest : List Moment) → Period es h p rest
     → (es′ : List Event) (h′ p′ rest′ : List Moment) → Period es′ h′ p′ rest′
     → lastPair h ≡ lastPair h′ → heard es h ≡ heard es′ h′
+
+-- Such periods there are: where a sequence ends at a period's start, a play of the whole period is one.
+abbrev pub Playable : Type 0
+Playable =
+    (es : List Event) (room : ℕ) → period ≤ room → since (history es) % period ≡ 0
+    → Period (es ++ (play period room ∷ [])) (history es) (replicate (period - 1) clock) []

@@ -2,4 +2,5 @@ pub mod Demand
 pub mod Play
 pub mod Steps
 pub mod Stretch
+pub mod Theorems
 pub mod Wave
