@@ -6,7 +6,7 @@ use mathlib.Core.List.{List, [], _∷_, _++_}
 use native.Mathlib.Nat.{zero-add, add-zero, add-assoc, zero-mul, suc-mul, mul-suc, mul-add, mul-left-comm, mul-le-mul-left}
 use native.Mathlib.Omega.{arith}
 use lib.Dec.{eqb}
-use lib.ListN.{length, take, drop, replicate}
+use lib.ListN.{take, drop, replicate}
 use lib.Pow.{pow-add}
 use lib.Seq.{take-at, drop-at}
 use Rattle.laws.specs.Pick.{pick}

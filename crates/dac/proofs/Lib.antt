@@ -2,4 +2,5 @@ pub mod Count
 pub mod Fine
 pub mod Proved
 pub mod Stream
+pub mod Unique
 pub mod Within

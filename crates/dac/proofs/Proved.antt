@@ -77,10 +77,11 @@ joined d a b s t e accepted =
     let first : afterPlay d a (length s) ≡ afterClocks a d = after-played d a (length s) (omega arith) (omega arith) in
     let then-b : b ≤ length t = omega arith in
     let empty : drop a s ≡ [] = rw (← e) (drop-length s) in
-    let behind : drop (a + b) (s ++ t) ≡ drop b t = rw (← e) (drop-append-add s t b) in
-    (rw first (after-played (afterClocks a d) b (length t) (omega arith) then-b ∙ sym (after-split a b d) ∙ sym (after-played d (a + b) (length (s ++ t)) (fits .0) (fits .1))),
-     rw (first, lent-played d a (length s) (omega arith) (omega arith) s refl, lent-played (afterClocks a d) b (length t) (omega arith) then-b t refl, lent-played d (a + b) (length (s ++ t)) (fits .0) (fits .1) (s ++ t) refl, empty, behind, append-nil (levelsOf a d), levels-split a b d)
-     (sym (append-assoc (levelsOf a d) (levelsOf b (afterClocks a d)) (drop b t))))
+    let behind : drop (a + b) (s ++ t) ≡ drop b t = rw (← e) (drop-append-add s t b) in (
+      rw first (after-played (afterClocks a d) b (length t) (omega arith) then-b ∙ sym (after-split a b d) ∙ sym (after-played d (a + b) (length (s ++ t)) (fits .0) (fits .1))),
+      rw (first, lent-played d a (length s) (omega arith) (omega arith) s refl, lent-played (afterClocks a d) b (length t) (omega arith) then-b t refl, lent-played d (a + b) (length (s ++ t)) (fits .0) (fits .1) (s ++ t) refl, empty, behind, append-nil (levelsOf a d), levels-split a b d)
+          (sym (append-assoc (levelsOf a d) (levelsOf b (afterClocks a d)) (drop b t))),
+    )
 
 -- a record whose parts are kept is as its kept form
 kept-parts : (p : ℕ) (h c f : Pair) → p < period → keptPair h ≡ h → keptPair c ≡ c → keptPair f ≡ f → kept (dacOf p h c f) ≡ dacOf p h c f
@@ -115,7 +116,12 @@ keeps d byte c =
     let done = keptPair-kept (d .completed) in
     let force = keptPair-kept (d .in_force) in
     let low-kept = kept-parts (d .position % period) _ _ _ (omega arith) low done force in
-    let high-kept = kept-parts (d .position % period) _ _ _ (omega arith) made made force in
-    (ap (λ (k : Dac). dacOf (k .position) (pair (k .held .coarse) (keptHalf byte)) (k .completed) (k .in_force)) (kept-kept d), low-kept,
-     ap (λ (k : Dac). dacOf (k .position) (pair (keptHalf byte) (k .held .fine)) (pair (keptHalf byte) (k .held .fine)) (k .in_force)) (kept-kept d), high-kept,
-     levels-kept d c, after-kept d c, stays-kept c d)
+    let high-kept = kept-parts (d .position % period) _ _ _ (omega arith) made made force in (
+      ap (λ (k : Dac). dacOf (k .position) (pair (k .held .coarse) (keptHalf byte)) (k .completed) (k .in_force)) (kept-kept d),
+      low-kept,
+      ap (λ (k : Dac). dacOf (k .position) (pair (keptHalf byte) (k .held .fine)) (pair (keptHalf byte) (k .held .fine)) (k .in_force)) (kept-kept d),
+      high-kept,
+      levels-kept d c,
+      after-kept d c,
+      stays-kept c d,
+    )

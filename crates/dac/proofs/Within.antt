@@ -14,7 +14,7 @@ use borrow.Author.Tests.{ltb-true, ltb-false, eq-eqb, ne-eqb}
 use Rattle.laws.specs.Pick.{pick}
 use Rattle.dac.specs.declared.Pair.{Pair}
 use Rattle.dac.specs.declared.Dac.{Dac}
-use Rattle.dac.specs.Wave.{period, subPeriod, pair, added, level}
+use Rattle.dac.specs.Wave.{period, added, level}
 use Rattle.dac.specs.Steps.{keptPair, dacOf, kept, playing, nextLevel, clocked, afterClocks, levelsOf}
 use Rattle.dac.specs.Play.{over}
 use Rattle.dac.specs.Stretch.{wave, pulse}
@@ -269,6 +269,7 @@ module _ (d k : Dac) (q : Pair) (is : k ≡ kept d) (plays : q ≡ playing k) wh
         let b : ms ≡ levelsOf (c - left) (afterClocks left d) = f ∙ rw (behind ls (drop left s) left (c - left) l, m, is, at-end) (sym next-levels) in
         let all : ls ++ ms ≡ levelsOf c d = ap₂ (λ (x y : List ℕ). x ++ y) a b ∙ sym (levels-split left (c - left) d) ∙ ap (λ (n : ℕ). levelsOf n d) whole in
         let r : afterClocks c d ≡ dacOf (c - left) (kept d .held) (kept d .completed) (kept d .completed) =
-        ap (λ (n : ℕ). afterClocks n d) (sym whole) ∙ after-split left (c - left) d ∙ ap (λ (x : Dac). afterClocks (c - left) x) at-end ∙ next-after in
-        (rw is (sym r),
-         put-behind ls (drop left s) left (c - left) l ms ∙ rw (drop-drop, whole) (sym (append-assoc ls ms (drop c s)) ∙ over-levels c d s (ls ++ ms) all))
+        ap (λ (n : ℕ). afterClocks n d) (sym whole) ∙ after-split left (c - left) d ∙ ap (λ (x : Dac). afterClocks (c - left) x) at-end ∙ next-after in (
+          rw is (sym r),
+          put-behind ls (drop left s) left (c - left) l ms ∙ rw (drop-drop, whole) (sym (append-assoc ls ms (drop c s)) ∙ over-levels c d s (ls ++ ms) all),
+        )

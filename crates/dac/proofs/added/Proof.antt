@@ -1,9 +1,7 @@
 -- `dac::added` meets its contract: the first power of two that does not divide the sub-period's number tells which fine bit serves it.
 -- Assumes nothing.
-use Prim.Native.Nat.{_%_}
-use mathlib.Core.Path.{_≡_, sym}
+use mathlib.Core.Path.{sym}
 use native.Mathlib.Omega.{arith}
-use borrow.Author.Needs.{needs}
 use Rattle.dac.proofs.Fine.{served, none-at-0}
 use Rattle.dac.proofs.added.Statement.{statement}
 use Rattle.dac.proofs.added.Tie as tie

@@ -7,11 +7,9 @@ use native.Mathlib.Omega.{arith}
 use lib.ListN.{length, drop, set, replicate, length-set}
 use lib.Seq.{drop-length}
 use borrow.Author.Needs.{needs}
-use borrow.Author.Fill.{fill-none, fill-more}
+use borrow.Author.Fill.{fill-more}
 use Rattle.dac.proofs.fill.Statement.{statement}
 use Rattle.dac.proofs.fill.Tie as tie
-use Rattle.dac.proofs.fill.Reads as reads
-use Rattle.dac.proofs.fill.Lts as lts
 
 abbrev Inv-loop : tie.InvT-loop
 Inv-loop bytes₀ byte i₀ bytes i = (length bytes ≡ length bytes₀) × (i ≤ length bytes₀) × (bytes ≡ replicate i byte ++ drop i bytes₀)

@@ -3,8 +3,6 @@
 use borrow.Author.Needs.{needs}
 use Rattle.dac.proofs.kept.Statement.{statement}
 use Rattle.dac.proofs.kept.Tie as tie
-use Rattle.dac.proofs.kept.Reads as reads
-use Rattle.dac.proofs.kept.Lts as lts
 
 kept-pair-requires : tie.Need-kept-pair-requires
 kept-pair-requires c κs = search needs

@@ -1,23 +1,17 @@
 -- `dac::lay` meets its contract: after i bytes they are the wave from the first position on, and the others as they came.
 -- Assumes nothing.
-use Prim.Native.Nat.{ℕ, _+_, _-_, _%_, _/_, _≤_}
+use Prim.Native.Nat.{ℕ, _+_, _-_, _≤_}
 use mathlib.Core.Path.{_≡_, refl, ap, sym, _∙_}
-use mathlib.Core.List.{List, _++_, append-nil}
+use mathlib.Core.List.{_++_, append-nil}
 use native.Mathlib.Omega.{arith}
 use borrow.Author.Needs.{needs}
 use lib.ListN.{length, take, drop, length-drop}
 use lib.Seq.{drop-length, length-take-le}
-use Rattle.dac.specs.Wave.{pair, added}
-use Rattle.dac.specs.Stretch.{wave, pulse}
-use Rattle.dac.proofs.Fine.{added-le}
+use Rattle.dac.specs.Wave.{pair}
+use Rattle.dac.specs.Stretch.{wave}
 use Rattle.dac.proofs.Within.{laid, length-laid, as-pulse}
 use Rattle.dac.proofs.lay.Statement.{statement}
 use Rattle.dac.proofs.lay.Tie as tie
-use Rattle.dac.proofs.lay.Reads as reads
-use Rattle.dac.proofs.lay.Lts as lts
-use Rattle.dac.proofs.added.Reads as added-reads
-use Rattle.dac.proofs.least.Reads as least-reads
-use Rattle.dac.proofs.stretch.Reads as stretch-reads
 
 abbrev Inv-loop : tie.InvT-loop
 Inv-loop levels₀ from coarse fine i₀ levels i = (i ≤ length levels₀) × (length levels ≡ length levels₀) × (levels ≡ wave (pair coarse fine) from i ++ drop i levels₀)

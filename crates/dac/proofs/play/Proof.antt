@@ -6,9 +6,6 @@ use borrow.Author.Tests.{lt-ltb, le-ltb}
 use Rattle.dac.specs.Play.{answerOf, afterPlay, levelsPlayed, lentAfter}
 use Rattle.dac.proofs.play.Statement.{statement}
 use Rattle.dac.proofs.play.Tie as tie
-use Rattle.dac.proofs.play.Reads as reads
-use Rattle.dac.proofs.play.Lts as lts
-use Rattle.dac.proofs.run.Reads as run-reads
 
 returns : tie.Need-returns
 unfolding answerOf afterPlay levelsPlayed lentAfter

@@ -1,23 +1,17 @@
 -- `dac::run` meets its contract: the clocks left of the period under way are the wave of the pair that plays, and those of the next period the
 -- wave of the completed pair.
 -- Assumes nothing.
-use Prim.Native.Nat.{ℕ, _+_, _-_, _≤_, _<_, _%_}
-use mathlib.Core.Path.{_≡_, refl, ap, sym, _∙_}
+use Prim.Native.Nat.{ℕ, _-_}
+use mathlib.Core.Path.{_≡_, refl, ap, sym}
 use native.Mathlib.Omega.{arith}
 use borrow.Author.Needs.{needs}
-use lib.ListN.{length, take}
 use lib.Seq.{length-take-le}
 use Rattle.dac.specs.declared.Dac.{Dac}
-use Rattle.dac.specs.Steps.{kept, afterClocks, levelsOf}
+use Rattle.dac.specs.Steps.{afterClocks, levelsOf}
 use Rattle.dac.specs.Play.{over}
 use Rattle.dac.proofs.Within.{position-small, run-within, run-across}
 use Rattle.dac.proofs.run.Statement.{statement}
 use Rattle.dac.proofs.run.Tie as tie
-use Rattle.dac.proofs.run.Reads as reads
-use Rattle.dac.proofs.run.Lts as lts
-use Rattle.dac.proofs.kept.Reads as kept-reads
-use Rattle.dac.proofs.lay.Reads as lay-reads
-use Rattle.dac.proofs.playing.Reads as playing-reads
 
 returns : tie.Need-returns
 unfolding afterClocks levelsOf

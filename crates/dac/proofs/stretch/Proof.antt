@@ -1,7 +1,7 @@
 -- `dac::stretch` meets its contract: the two fills are the two parts of the pulse.
 -- Assumes nothing.
-use Prim.Native.Nat.{ℕ, _-_, min}
-use mathlib.Core.Path.{_≡_, ap, sym, _∙_}
+use Prim.Native.Nat.{_-_, min}
+use mathlib.Core.Path.{_≡_, sym}
 use native.Mathlib.Omega.{arith}
 use borrow.Author.Needs.{needs}
 use lib.ListN.{length}
@@ -9,11 +9,6 @@ use lib.Seq.{length-take-le}
 use Rattle.dac.proofs.Within.{filled}
 use Rattle.dac.proofs.stretch.Statement.{statement}
 use Rattle.dac.proofs.stretch.Tie as tie
-use Rattle.dac.proofs.stretch.Reads as reads
-use Rattle.dac.proofs.stretch.Lts as lts
-use Rattle.dac.proofs.beyond.Reads as beyond-reads
-use Rattle.dac.proofs.fill.Reads as fill-reads
-use Rattle.dac.proofs.least.Reads as least-reads
 
 beyond-requires : tie.Need-beyond-requires
 beyond-requires c κs = search needs
