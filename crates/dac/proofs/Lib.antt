@@ -1,3 +1,4 @@
+pub mod Answers
 pub mod Count
 pub mod Fine
 pub mod Proved

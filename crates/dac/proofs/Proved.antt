@@ -18,6 +18,7 @@ use Rattle.dac.specs.Play.{tooMany, afterPlay, levelsPlayed, lentAfter}
 use Rattle.dac.specs.Stretch.{wave}
 use Rattle.dac.specs.Theorems.{Serves, BothHalves, Joined, Kept}
 use Rattle.dac.proofs.Within.{pair-kept, keptPair-kept, playing-kept, length-levels, levels-split, after-split}
+use Rattle.dac.proofs.Answers.{not-many, may, accepted-play, lent-played}
 use Rattle.dac.proofs.Count.{one-pair}
 
 pub serves : Serves
@@ -48,38 +49,17 @@ both-halves p q kp kq h =
     let e : p ≡ q = one-pair p q (a .0) (a .1) (b .0) (b .1) (same-wave p q 0 period (λ i lo hi. h i (omega arith))) in
     (ap (λ (x : Pair). x .coarse) e, ap (λ (x : Pair). x .fine) e)
 
--- of a play that is accepted
-module _ (d : Dac) (c room : ℕ) (most : c ≤ period) (fits : c ≤ room) where
-  after-played : afterPlay d c room ≡ afterClocks c d
-  unfolding afterPlay
-  after-played = rw (le-ltb period c most, le-ltb room c fits)
-
-  levels-played : levelsPlayed d c room ≡ levelsOf c d
-  unfolding levelsPlayed
-  levels-played = rw (le-ltb period c most, le-ltb room c fits)
-
-  lent-played : (s : List ℕ) → length s ≡ room → lentAfter d c s ≡ levelsOf c d ++ drop c s
-  unfolding lentAfter
-  lent-played s e = rw (e, levels-played, length-levels c d)
-
-not-many : (c room : ℕ) → tooMany c room ≡ false → (c ≤ period) × (c ≤ room)
-not-many c room e = go (ltb period c) (ltb room c) refl refl e
-  where
-    go : (x y : Bool) → ltb period c ≡ x → ltb room c ≡ y → (x || y) ≡ false → (c ≤ period) × (c ≤ room)
-    go true y p q f = absurd (false≢true (sym f))
-    go false true p q f = absurd (false≢true (sym f))
-    go false false p q f = (ltb-false period c p, ltb-false room c q)
-
 pub joined : Joined
 joined d a b s t e accepted =
     let fits = not-many (a + b) (length (s ++ t)) accepted in
     let long = length-append s t in
-    let first : afterPlay d a (length s) ≡ afterClocks a d = after-played d a (length s) (omega arith) (omega arith) in
-    let then-b : b ≤ length t = omega arith in
+    let first-may : tooMany a (length s) ≡ false = may a (length s) (omega arith) (omega arith) in
+    let then-may : tooMany b (length t) ≡ false = may b (length t) (omega arith) (omega arith) in
+    let first : afterPlay d a (length s) ≡ afterClocks a d = sym (accepted-play d a s first-may .1) in
     let empty : drop a s ≡ [] = rw (← e) (drop-length s) in
     let behind : drop (a + b) (s ++ t) ≡ drop b t = rw (← e) (drop-append-add s t b) in (
-      rw first (after-played (afterClocks a d) b (length t) (omega arith) then-b ∙ sym (after-split a b d) ∙ sym (after-played d (a + b) (length (s ++ t)) (fits .0) (fits .1))),
-      rw (first, lent-played d a (length s) (omega arith) (omega arith) s refl, lent-played (afterClocks a d) b (length t) (omega arith) then-b t refl, lent-played d (a + b) (length (s ++ t)) (fits .0) (fits .1) (s ++ t) refl, empty, behind, append-nil (levelsOf a d), levels-split a b d)
+      rw first (sym (accepted-play (afterClocks a d) b t then-may .1) ∙ sym (after-split a b d) ∙ accepted-play d (a + b) (s ++ t) accepted .1),
+      rw (first, lent-played d a s first-may, lent-played (afterClocks a d) b t then-may, lent-played d (a + b) (s ++ t) accepted, empty, behind, append-nil (levelsOf a d), levels-split a b d)
           (sym (append-assoc (levelsOf a d) (levelsOf b (afterClocks a d)) (drop b t))),
     )
 

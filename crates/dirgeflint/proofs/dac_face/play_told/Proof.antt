@@ -4,8 +4,6 @@ use mathlib.Core.Path.{_∙_}
 use borrow.Author.Needs.{needs}
 use Rattle.dirgeflint.proofs.dac_face.play_told.Statement.{statement}
 use Rattle.dirgeflint.proofs.dac_face.play_told.Tie as tie
-use Rattle.dirgeflint.proofs.dac_face.play_told.Reads as reads
-use Rattle.dirgeflint.proofs.dac_face.play_told.Lts as lts
 
 play-requires : tie.Need-play-requires
 play-requires c κs = search needs
