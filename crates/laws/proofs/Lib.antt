@@ -1,3 +1,4 @@
 pub mod Determined
-pub mod Tests
+pub mod Mapped
 pub mod Scan
+pub mod Tests
