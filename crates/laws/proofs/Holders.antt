@@ -38,6 +38,11 @@ module _ {A : Type 0} (has : A → Bool) (shows : A → ℕ) where
       go true none rest le = none (omega arith)
       go false none rest le = rest (omega arith)
 
+  -- one that does not have the place leaves it
+  pub last-skip : (c : A) (cs : List A) (old : ℕ) → has c ≡ false → lastShown has shows (c ∷ cs) old ≡ lastShown has shows cs old
+  unfolding lastShown
+  last-skip c cs old e = ap (λ (t : Bool). lastShown has shows cs (pick t (shows c) old)) e
+
   pub last-append : (cs ds : List A) (old : ℕ) → lastShown has shows (cs ++ ds) old ≡ lastShown has shows ds (lastShown has shows cs old)
   unfolding lastShown
   last-append [] ds old = refl

@@ -89,16 +89,19 @@ module _ (width height line k : ℕ) where
   pub past-below : (x y size left gap next : ℕ) → Past x y size → Past left (y + height * size + gap) next
   past-below x y size left gap next h = ⊎-elim (λ above. inl (omega arith)) (λ beside. inl (omega arith)) h
 
--- n times a size that no dot is below: the dot's share is below n
-pub share-below : (n size at from : ℕ) → from ≤ at → at < from + n * size → (at - from) / size < n
-share-below n size at from le lt =
-    ⊎-elim (λ (some : 1 ≤ size). div-lt-iff-lt-mul some .1 (omega arith)) (λ (z : size < 1). absurd (none z)) (split 1 size)
+-- of n parts of this size, the part that i is in
+pub part-below : (n size i : ℕ) → i < n * size → i / size < n
+part-below n size i lt = ⊎-elim (λ (some : 1 ≤ size). div-lt-iff-lt-mul some .1 lt) (λ (z : size < 1). absurd (none z)) (split 1 size)
   where
     none : size < 1 → ⊥
     none z =
         let e : size ≡ 0 = omega arith in
-        let d : at < from + n * 0 = rw e at lt in
+        let d : i < n * 0 = rw e at lt in
         omega arith
+
+-- counted from where the parts begin
+pub share-below : (n size at from : ℕ) → from ≤ at → at < from + n * size → (at - from) / size < n
+share-below n size at from le lt = part-below n size (at - from) (omega arith)
 
 -- after a word, one word fewer fits: `far` is how far the words may reach, `most` how far one goes at most
 pub room-step : (far most step at n : ℕ) → step ≤ most → at + most * (n + 1) ≤ far → at + step + most * n ≤ far
