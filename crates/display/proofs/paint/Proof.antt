@@ -1,79 +1,121 @@
+-- `display::paint`: what `judged` answers decides; an accepted call's line stands in the part lent on.
+-- Assumes nothing.
+use mathlib.Core.Path.{_≡_, refl, sym, ap, _∙_}
+use native.Mathlib.Omega.{arith}
+use borrow.Author.Needs.{needs}
+use lib.ListN.{length}
+use lib.Seq.{length-take-le}
+use Rattle.laws.specs.Said.{Said}
+use Rattle.display.specs.Painting.{said}
+use Rattle.display.proofs.Judging.{Accepted, accepted-by}
+use Rattle.display.proofs.Whole.{not-done, refused-leaves, shown, dark}
 use Rattle.display.proofs.paint.Statement.{statement}
 use Rattle.display.proofs.paint.Tie as tie
-use Rattle.display.proofs.paint.Reads as reads
-use Rattle.display.proofs.paint.Lts as lts
-use Rattle.display.proofs.blink_lit.Reads as blink-lit-reads
-use Rattle.display.proofs.fill.Reads as fill-reads
-use Rattle.display.proofs.judged.Reads as judged-reads
-use Rattle.display.proofs.paint_line.Reads as paint-line-reads
 
--- src/lib.rt:118:9
 judged-requires : tie.Need-judged-requires
-judged-requires c κs = ?
+judged-requires c κs = search needs
 
--- src/lib.rt:120:13
 enum-told : tie.Need-enum-told
-enum-told c = ?
+enum-told c = search needs
 
--- src/lib.rt:121:20
 slice-relend-prefix-dots : tie.Need-slice-relend-prefix-dots
-slice-relend-prefix-dots c = ?
+slice-relend-prefix-dots c =
+    let a = c .before .before .before .before .before .before .args in
+    let ok = sym (c .before .before .judged .ensures) ∙ ap said (c .enum-told .given .1) in
+    let acc = accepted-by (a .words .now) (a .font .now) (a .settings) (a .line) (a .width) (length (a .out .now)) ok in
+    acc .fits
 
--- src/lib.rt:121:13
 slice-aggregate-dots : tie.Need-slice-aggregate-dots
-slice-aggregate-dots c = ?
+slice-aggregate-dots c =
+    let a = c .before .before .before .before .before .before .before .args in
+    let ok = sym (c .before .before .before .judged .ensures) ∙ ap said (c .before .enum-told .given .1) in
+    let acc = accepted-by (a .words .now) (a .font .now) (a .settings) (a .line) (a .width) (length (a .out .now)) ok in
+    sym (length-take-le (a .width .0) (a .out .now) (acc .fits))
 
--- src/lib.rt:123:17
 blink-lit-requires : tie.Need-blink-lit-requires
-blink-lit-requires c κs = ?
+blink-lit-requires c κs =
+    let a = c .before .before .before .before .before .before .before .before .args in
+    let ok = sym (c .before .before .before .before .judged .ensures) ∙ ap said (c .before .before .enum-told .given .1) in
+    let acc = accepted-by (a .words .now) (a .font .now) (a .settings) (a .line) (a .width) (length (a .out .now)) ok in
+    (acc .ratio, acc .frequency)
 
--- src/lib.rt:125:32
 cast-t17 : tie.Need-cast-t17
-cast-t17 c = ?
+cast-t17 c =
+    let a = c .before .before .before .before .before .before .before .before .before .before .args in
+    let ok = sym (c .before .before .before .before .before .before .judged .ensures) ∙ ap said (c .before .before .before .before .enum-told .given .1) in
+    let acc = accepted-by (a .words .now) (a .font .now) (a .settings) (a .line) (a .width) (length (a .out .now)) ok in
+    omega arith
 
--- src/lib.rt:125:28
 mul-t18 : tie.Need-mul-t18
-mul-t18 c = ?
+mul-t18 c =
+    let a = c .before .before .before .before .before .before .before .before .before .before .args in
+    let ok = sym (c .before .before .before .before .before .before .judged .ensures) ∙ ap said (c .before .before .before .before .enum-told .given .1) in
+    let acc = accepted-by (a .words .now) (a .font .now) (a .settings) (a .line) (a .width) (length (a .out .now)) ok in
+    omega arith
 
--- src/lib.rt:130:33
 cast-t17-2 : tie.Need-cast-t17-2
-cast-t17-2 c = ?
+cast-t17-2 c =
+    let a = c .before .before .before .before .before .before .before .before .before .before .before .args in
+    let ok = sym (c .before .before .before .before .before .before .before .judged .ensures) ∙ ap said (c .before .before .before .before .before .enum-told .given .1) in
+    let acc = accepted-by (a .words .now) (a .font .now) (a .settings) (a .line) (a .width) (length (a .out .now)) ok in
+    omega arith
 
--- src/lib.rt:130:29
 mul-t18-2 : tie.Need-mul-t18-2
-mul-t18-2 c = ?
+mul-t18-2 c =
+    let a = c .before .before .before .before .before .before .before .before .before .before .before .args in
+    let ok = sym (c .before .before .before .before .before .before .before .judged .ensures) ∙ ap said (c .before .before .before .before .before .enum-told .given .1) in
+    let acc = accepted-by (a .words .now) (a .font .now) (a .settings) (a .line) (a .width) (length (a .out .now)) ok in
+    omega arith
 
--- src/lib.rt:131:48
 cast-paint-line : tie.Need-cast-paint-line
-cast-paint-line c = ?
+cast-paint-line c =
+    let a = c .before .before .before .before .before .before .before .before .before .before .before .before .args in
+    let ok = sym (c .before .before .before .before .before .before .before .before .judged .ensures) ∙ ap said (c .before .before .before .before .before .before .enum-told .given .1) in
+    let acc = accepted-by (a .words .now) (a .font .now) (a .settings) (a .line) (a .width) (length (a .out .now)) ok in
+    omega arith
 
--- src/lib.rt:131:13
 paint-line-requires : tie.Need-paint-line-requires
-paint-line-requires c κs = ?
+paint-line-requires c κs =
+    let a = c .before .before .before .before .before .before .before .before .before .before .before .before .args in
+    let ok = sym (c .before .before .before .before .before .before .before .before .judged .ensures) ∙ ap said (c .before .before .before .before .before .before .enum-told .given .1) in
+    let acc = accepted-by (a .words .now) (a .font .now) (a .settings) (a .line) (a .width) (length (a .out .now)) ok in
+    (acc .words64, (acc .rows, (omega arith, (omega arith, acc .colour))))
 
--- src/lib.rt:133:13
 fill-requires : tie.Need-fill-requires
-fill-requires c κs = ?
+fill-requires c κs = search needs
 
--- src/lib.rt:107:1
 same-length : tie.Need-same-length
-same-length c = ?
+same-length c = search needs
 
--- src/lib.rt:107:1
 returns : tie.Need-returns
-returns c = ?
+returns c =
+    let a = c .before .before .before .before .before .before .before .before .before .before .before .before .before .before .before .args in
+    let ok = sym (c .before .before .before .before .before .before .before .before .before .before .before .judged .ensures) ∙ ap said (c .before .before .before .before .before .before .before .before .before .enum-told .given .1) in
+    let acc = accepted-by (a .words .now) (a .font .now) (a .settings) (a .line) (a .width) (length (a .out .now)) ok in
+    (
+      c .before .before .before .before .before .before .before .before .before .before .before .judged .ensures,
+      shown (a .words .now) (a .font .now) (a .settings) (a .frame) (a .line) (a .width) (a .out .now) ok (acc .fits) _ (c .before .before .before .before .before .before .blink-lit .result) (c .before .before .before .before .before .before .before .if1 .taken)
+          (c .before .before .before .before .before .before .blink-lit .ensures) (c .before .before .paint-line .ensures),
+    )
 
--- src/lib.rt:107:1
 same-length-2 : tie.Need-same-length-2
-same-length-2 c = ?
+same-length-2 c = search needs
 
--- src/lib.rt:107:1
 returns-2 : tie.Need-returns-2
-returns-2 c = ?
+returns-2 c =
+    let a = c .before .before .before .before .before .before .before .before .before .before .before .args in
+    let ok = sym (c .before .before .before .before .before .before .before .judged .ensures) ∙ ap said (c .before .before .before .before .before .enum-told .given .1) in
+    let acc = accepted-by (a .words .now) (a .font .now) (a .settings) (a .line) (a .width) (length (a .out .now)) ok in
+    (
+      c .before .before .before .before .before .before .before .judged .ensures,
+      dark (a .words .now) (a .font .now) (a .settings) (a .frame) (a .line) (a .width) (a .out .now) ok (acc .fits) _ (c .before .before .before .if1 .left) (c .before .before .fill .ensures),
+    )
 
--- src/lib.rt:107:1
 returns-3 : tie.Need-returns-3
-returns-3 c = ?
+returns-3 c =
+    let a = c .before .before .before .before .before .args in
+    let e = c .before .judged .ensures in
+    (e, refused-leaves (a .words .now) (a .font .now) (a .settings) (a .frame) (a .line) (a .width) (a .out .now) (λ z. not-done (c .before .judged .result) (c .match .keys2) (ap (λ (w : Said). w .number) e ∙ z)))
 
 pub paint-spec : {M : Type 1} → statement M
 paint-spec =
