@@ -95,12 +95,16 @@ pub enum Painted {
 }
 
 const WORDS: usize = 64;
+
 const MOST_WORD: u16 = 1023;
+
 const MOST_LINE: usize = 1023;
+
 const MOST_WIDTH: usize = 1024;
 
 // Dots and lines of a cell at size 1.
 const CELL_COLUMNS: usize = 12;
+
 const CELL_ROWS: usize = 18;
 
 // Paints the first `width` dots of a line to `out`; the bytes after them stay, and all stay where the call is refused.
@@ -408,14 +412,7 @@ fn draw(cell: Placed, background: u8, font: &[u16], view: View, out: &mut [u8])
 }
 
 // The bits of a character's row that the line cuts: none where it is blinked out.
-fn shown_bits(
-    font: &[u16],
-    view: View,
-    y: Lines,
-    size: usize,
-    code: usize,
-    blink: bool,
-) -> u16
+fn shown_bits(font: &[u16], view: View, y: Lines, size: usize, code: usize, blink: bool) -> u16
     requires { ⌜ (length (now font) ≡ 1116) × ((code ≤ 61) × ((1 ≤ size) × ((y .0 ≤ view .line .0) × (view .line .0 < y .0 + 18 * size)))) ⌝ }
     ensures { λ r. ⌜ r ≡ shownBits (now (font .entry)) view y size code blink ⌝ }
 {

@@ -91,8 +91,7 @@ returns : tie.Need-returns
 returns c =
     let a = c .before .before .before .before .before .before .before .before .before .before .before .before .before .before .before .args in
     let ok = sym (c .before .before .before .before .before .before .before .before .before .before .before .judged .ensures) ∙ ap said (c .before .before .before .before .before .before .before .before .before .enum-told .given .1) in
-    let acc = accepted-by (a .words .now) (a .font .now) (a .settings) (a .line) (a .width) (length (a .out .now)) ok in
-    (
+    let acc = accepted-by (a .words .now) (a .font .now) (a .settings) (a .line) (a .width) (length (a .out .now)) ok in (
       c .before .before .before .before .before .before .before .before .before .before .before .judged .ensures,
       shown (a .words .now) (a .font .now) (a .settings) (a .frame) (a .line) (a .width) (a .out .now) ok (acc .fits) _ (c .before .before .before .before .before .before .blink-lit .result) (c .before .before .before .before .before .before .before .if1 .taken)
           (c .before .before .before .before .before .before .blink-lit .ensures) (c .before .before .paint-line .ensures),
@@ -105,8 +104,7 @@ returns-2 : tie.Need-returns-2
 returns-2 c =
     let a = c .before .before .before .before .before .before .before .before .before .before .before .args in
     let ok = sym (c .before .before .before .before .before .before .before .judged .ensures) ∙ ap said (c .before .before .before .before .before .enum-told .given .1) in
-    let acc = accepted-by (a .words .now) (a .font .now) (a .settings) (a .line) (a .width) (length (a .out .now)) ok in
-    (
+    let acc = accepted-by (a .words .now) (a .font .now) (a .settings) (a .line) (a .width) (length (a .out .now)) ok in (
       c .before .before .before .before .before .before .before .judged .ensures,
       dark (a .words .now) (a .font .now) (a .settings) (a .frame) (a .line) (a .width) (a .out .now) ok (acc .fits) _ (c .before .before .before .if1 .left) (c .before .before .fill .ensures),
     )
