@@ -44,6 +44,40 @@ typedef struct dirgeflint_answer {
  */
 dirgeflint_answer dirgeflint_pulse_level(uint32_t channel, uint8_t byte, uint32_t t);
 
+/*
+ * The 14-bit DAC: a period is 128 sub-periods of 128 clocks. The host keeps one running record and lends it to each call.
+ * Any record is taken: a call uses each half modulo 128 and the position modulo 16,384, and leaves them so.
+ */
+typedef struct dirgeflint_pair {
+    uint8_t coarse; /* high half */
+    uint8_t fine;   /* low half */
+} dirgeflint_pair;
+
+typedef struct dirgeflint_dac {
+    uint16_t position;         /* clocks played of the period under way */
+    dirgeflint_pair held;      /* what the high and the low register keep */
+    dirgeflint_pair completed; /* the latest completed pair */
+    dirgeflint_pair in_force;  /* the pair that is being played */
+} dirgeflint_dac;
+
+/* Makes the record what it is after reset: 0 everywhere. */
+void dirgeflint_dac_reset(dirgeflint_dac *dac);
+
+/* Writes the low register: its 7 low bits are held as the fine half, until a high write takes them into a pair. */
+void dirgeflint_dac_write_low(dirgeflint_dac *dac, uint8_t byte);
+
+/* Writes the high register: its 7 low bits, with the fine half held now, complete a pair. The latest completed pair comes into force when
+ * the first clock of a period is played. */
+void dirgeflint_dac_write_high(dirgeflint_dac *dac, uint8_t byte);
+
+/*
+ * Plays so many clocks: writes a byte for each, 1 for high and 0 for low, to the first bytes of levels, and moves the position on. Later
+ * bytes stay. A play of 0 clocks changes nothing.
+ *
+ * Refuses 14: clocks above 16,384, or above levels_length. The record is then left as it was, made up or not.
+ */
+dirgeflint_answer dirgeflint_dac_play(dirgeflint_dac *dac, uint32_t clocks, uint8_t *levels, size_t levels_length);
+
 #ifdef __cplusplus
 }
 #endif
