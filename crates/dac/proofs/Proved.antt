@@ -1,4 +1,4 @@
--- The statements of specs/Theorems.antt, proved from the laws of the other files; `placed` is in proofs/Stream.antt.
+-- The statements of specs/Theorems.antt, proved from the laws of the other files; `placed` and `reached` are in proofs/Stream.antt.
 -- Assumes nothing.
 use Prim.Native.Nat.{ℕ, zero, suc, _+_, _-_, _%_, _<_, _≤_}
 use mathlib.Core.Path.{_≡_, refl, sym, ap, ap₂, _∙_}
