@@ -1,23 +1,22 @@
--- The statements of specs/Theorems.antt, proved from the laws of the other files; `placed` is in proofs/Stream.antt.
+-- The statements of specs/Theorems.antt, proved from the laws of the other files; `placed` and `reached` are in proofs/Stream.antt.
 -- Assumes nothing.
 use Prim.Native.Nat.{ℕ, zero, suc, _+_, _-_, _%_, _<_, _≤_}
 use mathlib.Core.Path.{_≡_, refl, sym, ap, ap₂, _∙_}
-use mathlib.Core.Bool.{Bool, true, false, false≢true, _||_}
+use mathlib.Core.Bool.{false}
 use mathlib.Core.List.{List, [], _∷_, _++_, append-assoc, append-nil}
 use native.Mathlib.Omega.{arith}
 use lib.Count.{trailingZeros}
-use lib.Dec.{ltb}
 use lib.ListN.{length, drop, length-append}
 use lib.Seq.{drop-length, drop-append-add}
-use borrow.Author.Tests.{ltb-false, le-ltb, ne-eqb}
+use borrow.Author.Tests.{ne-eqb}
 use Rattle.dac.specs.declared.Pair.{Pair}
 use Rattle.dac.specs.declared.Dac.{Dac}
 use Rattle.dac.specs.Wave.{period, pair, bit, added, level}
 use Rattle.dac.specs.Steps.{keptHalf, keptPair, dacOf, kept, nextLevel, clocked, afterClocks, levelsOf}
-use Rattle.dac.specs.Play.{tooMany, afterPlay, levelsPlayed, lentAfter}
+use Rattle.dac.specs.Play.{tooMany, afterPlay}
 use Rattle.dac.specs.Stretch.{wave}
 use Rattle.dac.specs.Theorems.{Serves, BothHalves, Joined, Kept}
-use Rattle.dac.proofs.Within.{pair-kept, keptPair-kept, playing-kept, length-levels, levels-split, after-split}
+use Rattle.dac.proofs.Within.{pair-kept, keptPair-kept, playing-kept, levels-split, after-split}
 use Rattle.dac.proofs.Answers.{not-many, may, accepted-play, lent-played}
 use Rattle.dac.proofs.Count.{one-pair}
 

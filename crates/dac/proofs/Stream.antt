@@ -2,7 +2,7 @@
 -- the history says; so at a period's first clock the last completed pair comes into force, and with no reset it stays to the period's end,
 -- whatever is written. The period's levels are then the wave of that pair, which has the shares asked for.
 -- Assumes nothing.
-use Prim.Native.Nat.{ℕ, zero, suc, _+_, _%_, _<_, _≤_}
+use Prim.Native.Nat.{ℕ, zero, suc, _+_, _-_, _%_, _<_, _≤_}
 use mathlib.Core.Path.{_≡_, refl, subst, sym, ap, ap₂, _∙_}
 use mathlib.Core.Bool.{Bool, true, false, false≢true}
 use mathlib.Core.List.{List, [], _∷_, _++_, append-assoc, reverse, reverseAux, reverse-reverse}
@@ -19,7 +19,7 @@ use Rattle.dac.specs.Steps.{keptHalf, keptPair, kept, afterReset, lowWri
 use Rattle.dac.specs.Play.{tooMany, afterPlay, levelsPlayed}
 use Rattle.dac.specs.Stretch.{wave}
 use Rattle.dac.specs.Demand.{Event, low, high, play, reset, step, puts, run, output, Moment, wroteLow, wroteHigh, clock, cleared, momentsOf, moments, lastLow, lastPair, since, clocks, unreset, Period, heard, Shares, Demand3, Unaltered, history, Playable}
-use Rattle.dac.specs.Theorems.{Placed}
+use Rattle.dac.specs.Theorems.{Placed, Reached}
 use Rattle.dac.proofs.Within.{pair-kept, first-plays, later-plays}
 use Rattle.dac.proofs.Count.{shares}
 
@@ -272,7 +272,7 @@ unfolding clocks unreset
 all-clocks zero = (refl, refl)
 all-clocks (suc n) = (ap suc (all-clocks n .0), all-clocks n .1)
 
-whole-play : (room : ℕ) → period ≤ room → moments (play period room ∷ []) ≡ clock ∷ (replicate 16383 clock ++ [])
+whole-play : (room : ℕ) → period ≤ room → moments (play period room ∷ []) ≡ clock ∷ (replicate (period - 1) clock ++ [])
 unfolding moments momentsOf
 whole-play room h = rw (le-ltb room period h)
 
@@ -284,6 +284,9 @@ pub playable : Playable
 playable es room h s = record {
   whole = moments-append es (play period room ∷ []) ∙ ap₂ (λ (a b : List Moment). a ++ b) (sym (reverse-reverse (moments es))) (whole-play room h);
   starts = s;
-  unbroken = all-clocks 16383 .1;
-  ended = one-more (replicate 16383 clock) ∙ ap suc (all-clocks 16383 .0);
+  unbroken = all-clocks (period - 1) .1;
+  ended = one-more (replicate (period - 1) clock) ∙ ap suc (all-clocks (period - 1) .0);
 }
+
+pub reached : Reached
+reached es room h e = playable es room h (sym (placed es) ∙ e)

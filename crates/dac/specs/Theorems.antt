@@ -1,17 +1,17 @@
--- What else is proved of the account: each statement here has its proof in proofs/Proved.antt.
+-- What else is proved of the account. The proofs are in proofs/Proved.antt, those of the last two in proofs/Stream.antt.
 -- Assumes nothing.
 use Prim.Native.Nat.{ℕ, suc, _+_, _-_, _%_, _<_, _≤_}
 use mathlib.Core.Path.{_≡_}
-use mathlib.Core.List.{List, _++_}
+use mathlib.Core.List.{List, [], _∷_, _++_}
 use mathlib.Core.Bool.{false}
 use lib.Count.{trailingZeros}
-use lib.ListN.{length}
+use lib.ListN.{length, replicate}
 use Rattle.dac.specs.declared.Pair.{Pair}
 use Rattle.dac.specs.declared.Dac.{Dac}
 use Rattle.dac.specs.Wave.{period, bit, added, level}
 use Rattle.dac.specs.Steps.{keptPair, kept, afterReset, lowWritten, highWritten, afterClocks, levelsOf}
 use Rattle.dac.specs.Play.{tooMany, afterPlay, lentAfter}
-use Rattle.dac.specs.Demand.{Event, history, since, run}
+use Rattle.dac.specs.Demand.{Event, play, run, clock, history, since, Period}
 
 -- Fine bit b serves exactly the sub-periods from 1 to 127 that end in 6 - b zero bits; sub-period 0 gets nothing.
 abbrev pub Serves : Type 0
@@ -41,3 +41,9 @@ Kept =
 -- The position that the record has after a sequence from reset is the clocks since the last reset, less whole periods.
 abbrev pub Placed : Type 0
 Placed = (es : List Event) → run es afterReset .position ≡ since (history es) % period
+
+-- So after every sequence from reset that ends at position 0 there is a period of demand 3: a play of the whole of it.
+abbrev pub Reached : Type 0
+Reached =
+    (es : List Event) (room : ℕ) → period ≤ room → run es afterReset .position ≡ 0
+    → Period (es ++ (play period room ∷ [])) (history es) (replicate (period - 1) clock) []

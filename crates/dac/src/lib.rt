@@ -8,12 +8,12 @@ ghost use Rattle.dac.specs.Steps.{keptPair, kept as keptOf, afterReset, 
 ghost use Rattle.dac.specs.Play.{answerOf, afterPlay, lentAfter, over, said};
 ghost use Rattle.dac.specs.Stretch.{wave, pulse};
 
-// Clocks of a period, and of one of its sub-periods.
+// In clocks.
 const PERIOD: usize = 16384;
 
 const SUB_PERIOD: usize = 128;
 
-// A half is below this.
+// A register keeps 7 bits, so a half is below this.
 const HALF: u8 = 128;
 
 #[repr(C)]
@@ -45,6 +45,7 @@ pub struct Outcome {
     pub answer: Played,
 }
 
+// The record after a reset.
 pub fn fresh() -> Dac
     ensures { λ r. ⌜ r ≡ afterReset ⌝ }
 {
@@ -56,6 +57,7 @@ pub fn fresh() -> Dac
     }
 }
 
+// Holds a low half.
 pub fn write_low(dac: Dac, byte: u8) -> Dac
     ensures { λ r. ⌜ r ≡ lowWritten dac byte ⌝ }
 {
@@ -68,6 +70,7 @@ pub fn write_low(dac: Dac, byte: u8) -> Dac
     after
 }
 
+// Holds a high half, which completes a pair with the low half held then.
 pub fn write_high(dac: Dac, byte: u8) -> Dac
     ensures { λ r. ⌜ r ≡ highWritten dac byte ⌝ }
 {

@@ -14,7 +14,8 @@ use Rattle.dac.proofs.lay.Statement.{statement}
 use Rattle.dac.proofs.lay.Tie as tie
 
 abbrev Inv-loop : tie.InvT-loop
-Inv-loop levels₀ from coarse fine i₀ levels i = (i ≤ length levels₀) × (length levels ≡ length levels₀) × (levels ≡ wave (pair coarse fine) from i ++ drop i levels₀)
+Inv-loop levels₀ from coarse fine i₀ levels i =
+    (i ≤ length levels₀) × (length levels ≡ length levels₀) × (levels ≡ wave (pair coarse fine) from i ++ drop i levels₀)
 
 abbrev μ-loop : tie.MeasureT-loop
 μ-loop levels₀ from coarse fine i₀ levels i = length levels₀ - i
@@ -72,8 +73,7 @@ loop-again c =
     let i = l .i in
     let end = c .before .before .before .before .least .result in
     let on : i ≤ end = omega arith in
-    let n : length (take (end - i) (drop i (l .levels))) ≡ end - i =
-    length-take-le (end - i) (drop i (l .levels)) (omega (arith, length-drop i (l .levels))) in
+    let n : length (take (end - i) (drop i (l .levels))) ≡ end - i = length-take-le (end - i) (drop i (l .levels)) (omega (arith, length-drop i (l .levels))) in
     let is : c .before .before .stretch .last .0 ≡ wave (a .pair) (a .from + i) (end - i) =
     c .before .before .stretch .ensures ∙ rw (n, c .before .before .before .before .before .added .ensures) (sym (as-pulse (a .pair) (a .from + i) (end - i) (omega arith))) in
     let e : take i (l .levels) ++ (c .before .before .stretch .last .0 ++ drop (end - i) (drop i (l .levels))) ≡ wave (a .pair) (a .from) end ++ drop end (a .levels .now) =
@@ -91,4 +91,7 @@ returns c =
     l .inv .2 ∙ ap (λ (n : ℕ). wave (a .pair) (a .from) n ++ drop n (a .levels .now)) e ∙ rw (drop-length (a .levels .now)) (append-nil (wave (a .pair) (a .from) (length (a .levels .now))))
 
 pub lay-spec : {M : Type 1} → statement M
-lay-spec = tie.close (tie.spec Inv-loop μ-loop cast-coarse loop-holds add-clock add-added added-requires sub-least add-least least-requires sub-stretch part-stretch-start part-stretch-end cast-stretch add-stretch stretch-requires loop-less loop-again same-length returns)
+lay-spec =
+    tie.close
+    (tie.spec Inv-loop μ-loop cast-coarse loop-holds add-clock add-added added-requires sub-least add-least least-requires
+    sub-stretch part-stretch-start part-stretch-end cast-stretch add-stretch stretch-requires loop-less loop-again same-length returns)

@@ -7,6 +7,7 @@ use native.Mathlib.Omega.{arith}
 use borrow.Author.Needs.{needs}
 use lib.Seq.{length-take-le}
 use Rattle.dac.specs.declared.Dac.{Dac}
+use Rattle.dac.specs.Wave.{period}
 use Rattle.dac.specs.Steps.{afterClocks, levelsOf}
 use Rattle.dac.specs.Play.{over}
 use Rattle.dac.proofs.Within.{position-small, run-within, run-across}
@@ -39,7 +40,10 @@ slice-aggregate-lay : tie.Need-slice-aggregate-lay
 slice-aggregate-lay c = let a = c .before .before .before .before .before .before .before .args in sym (length-take-le _ (a .levels .now) (omega arith))
 
 lay-requires : tie.Need-lay-requires
-lay-requires c κs = let a = c .before .before .before .before .before .before .before .args in omega (arith, length-take-le (a .count) (a .levels .now) (omega arith), position-small _ _ (c .before .before .before .before .kept .ensures))
+lay-requires c κs =
+    let k = c .before .before .before .before in
+    let a = k .before .before .before .args in
+    omega (arith, length-take-le (a .count) (a .levels .now) (omega arith), position-small _ _ (k .kept .ensures))
 
 add-after : tie.Need-add-after
 add-after c = search needs
@@ -54,7 +58,8 @@ returns-2 : tie.Need-returns-2
 returns-2 c =
     let k = c .before .before .before .before .before .before .before in
     let a = k .before .before .before .args in
-    run-within (a .dac) (k .kept .result) _ (k .kept .ensures) (c .before .before .before .before .before .playing .ensures) (a .count) (a .levels .now) _ (omega arith) (omega (arith, ap (λ (x : Dac). x .position) (k .kept .ensures))) (omega arith) (c .before .before .lay .ensures)
+    run-within (a .dac) (k .kept .result) _ (k .kept .ensures) (c .before .before .before .before .before .playing .ensures) (a .count) (a .levels .now) _
+    (omega arith) (omega (arith, ap (λ (x : Dac). x .position) (k .kept .ensures))) (omega arith) (c .before .before .lay .ensures)
 
 slice-relend-prefix-lay-2 : tie.Need-slice-relend-prefix-lay-2
 slice-relend-prefix-lay-2 c = search needs
@@ -66,7 +71,7 @@ lay-requires-2 : tie.Need-lay-requires-2
 lay-requires-2 c κs =
     let k = c .before .before .before .before in
     let a = k .before .before .before .args in
-    omega (arith, length-take-le (16384 - k .kept .result .position) (a .levels .now) (omega arith), position-small _ _ (k .kept .ensures))
+    omega (arith, length-take-le (period - k .kept .result .position) (a .levels .now) (omega arith), position-small _ _ (k .kept .ensures))
 
 sub-lay : tie.Need-sub-lay
 sub-lay c = search needs
@@ -93,9 +98,13 @@ returns-3 : tie.Need-returns-3
 returns-3 c =
     let k = c .before .before .before .before .before .before .before .before .before .before .before .before in
     let a = k .before .before .before .args in
-    run-across (a .dac) (k .kept .result) _ (k .kept .ensures) (c .before .before .before .before .before .before .before .before .before .before .playing .ensures) (a .count) (16384 - k .kept .result .position) refl (omega arith) (omega arith) (a .levels .now) _ _ (omega arith) (c .before .before .before .before .before .before .before .lay2 .ensures) (c .before .before .lay3 .ensures)
+    run-across (a .dac) (k .kept .result) _ (k .kept .ensures) (c .before .before .before .before .before .before .before .before .before .before .playing .ensures)
+    (a .count) (period - k .kept .result .position) refl (omega arith) (omega arith) (a .levels .now) _ _ (omega arith)
+    (c .before .before .before .before .before .before .before .lay2 .ensures) (c .before .before .lay3 .ensures)
 
 pub run-spec : {M : Type 1} → statement M
 run-spec =
     tie.close
-    (tie.spec returns kept-requires cast-position sub-left playing-requires slice-relend-prefix-lay slice-aggregate-lay lay-requires add-after cast-after same-length returns-2 slice-relend-prefix-lay-2 slice-aggregate-lay-2 lay-requires-2 sub-lay part-lay-start part-lay-end lay-requires-3 sub-after cast-after-2 same-length-2 returns-3)
+    (tie.spec returns kept-requires cast-position sub-left playing-requires
+    slice-relend-prefix-lay slice-aggregate-lay lay-requires add-after cast-after same-length returns-2
+    slice-relend-prefix-lay-2 slice-aggregate-lay-2 lay-requires-2 sub-lay part-lay-start part-lay-end lay-requires-3 sub-after cast-after-2 same-length-2 returns-3)

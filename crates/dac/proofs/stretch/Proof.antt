@@ -47,7 +47,10 @@ returns c =
     let l = c .before .before .before .before .before .before .before .before in
     let a = l .before .before .before .args in
     let turns : l .least .result ≡ min (a .high - a .clock) (length (a .levels .now)) = cc in
-    filled (a .levels .now) _ _ (a .clock) (a .high) (l .least .result) turns (c .before .before .before .before .before .before .fill .ensures) (c .before .before .fill2 .ensures)
+    filled (a .levels .now) _ _ (a .clock) (a .high) (l .least .result) turns
+    (c .before .before .before .before .before .before .fill .ensures) (c .before .before .fill2 .ensures)
 
 pub stretch-spec : {M : Type 1} → statement M
-stretch-spec = tie.close (tie.spec beyond-requires least-requires slice-relend-prefix-fill slice-aggregate-fill fill-requires sub-fill part-fill-start part-fill-end fill-requires-2 same-length returns)
+stretch-spec =
+    tie.close
+    (tie.spec beyond-requires least-requires slice-relend-prefix-fill slice-aggregate-fill fill-requires sub-fill part-fill-start part-fill-end fill-requires-2 same-length returns)
