@@ -5,8 +5,7 @@ use mathlib.Core.List.{List}
 use Prim.Native.Nat.{ℕ}
 use lib.Dec.{eqb}
 use Rattle.laws.specs.Pick.{pick}
-use Rattle.laws.specs.Said.{Said}
-use Rattle.laws.proofs.Determined.{Determines, both-say}
+use Rattle.laws.proofs.Determined.{Determines, both-say, told-apart}
 use Rattle.display.specs.declared.Painted.{Painted}
 use Rattle.display.specs.declared.Painted.the-variants.{Done, BadSetting, ReservedRatio, BadWords, BadFont, OffScreen, NoRoom}
 use Rattle.display.specs.Painting.{said}
@@ -28,7 +27,7 @@ numbered-said OffScreen = refl
 numbered-said NoRoom = refl
 
 pub said-one : (r r′ : Painted) → said r ≡ said r′ → r ≡ r′
-said-one r r′ e = sym (numbered-said r) ∙ ap (λ (a : Said). numbered (a .number)) e ∙ numbered-said r′
+said-one = told-apart said (λ a. numbered (a .number)) numbered-said
 
 pub paint-unique : Determines paint.ended (λ w. paint.clauses (w .𝓤) (w .H) (w .𝓖 .A) (w .𝓜 .mem) (w .𝓡 .run))
 paint-unique w κs a g g′ r r′ ws ws′ =

@@ -7,7 +7,7 @@ use mathlib.Core.Bool.{Bool, true, false}
 use lib.ListN.{length}
 use Rattle.laws.specs.Pick.{pick}
 use Rattle.laws.specs.Lines.{lastShown}
-use Rattle.laws.specs.Placing.{spanHas}
+use Rattle.laws.specs.Placing.{patched}
 use Rattle.font.specs.Font.{rowOf, bitSet}
 use Rattle.display.specs.declared.Lines.{Lines}
 use Rattle.display.specs.declared.Pen.{Pen}
@@ -33,8 +33,8 @@ abbrev pub bitByte : ℕ → ℕ → ℕ → ℕ → ℕ
 bitByte bits j on off = pick (bitSet bits j) on off
 
 -- dot k where n dots from x on show these bits, each bit `size` dots wide
-unfoldable pub stretched : ℕ → ℕ → ℕ → ℕ → ℕ → ℕ → ℕ → ℕ → ℕ
-stretched x n size bits on off k old = pick (spanHas x n k) (bitByte bits ((k - x) / size) on off) old
+abbrev pub stretched : ℕ → ℕ → ℕ → ℕ → ℕ → ℕ → ℕ → ℕ → ℕ
+stretched x n size bits on off k old = patched x n (λ d. bitByte bits (d / size) on off) k old
 
 -- where a row ends: one word further
 abbrev pub later : RowEnd → RowEnd

@@ -4,6 +4,7 @@ ghost use Prim.Native.Nat.{ℕ, _+_, _*_, _≤_, _<_};
 ghost use lib.ListN.{length, replicate};
 ghost use Rattle.laws.specs.Pick.{both};
 ghost use Rattle.laws.specs.Lines.{overlay, tabulate};
+ghost use Rattle.laws.specs.Placing.{patched};
 ghost use Rattle.display.specs.Words.{kindOf};
 ghost use Rattle.display.specs.Cells.{placedWord, cellOf, rightOf, belowRow, rowPen, cellsFrom, cells};
 ghost use Rattle.display.specs.Picture.{unlitByte, outsideByte, divisorOf, litIn, dotAt};
@@ -426,7 +427,7 @@ fn shown_bits(font: &[u16], view: View, y: Lines, size: usize, code: usize, blin
     font[at]
 }
 
-// A cell's row of 12 bits over the dots from x on. Each size has its own call, so that dividing by it compiles to a shift or a product.
+// A cell's row of 12 bits over the dots from x on. Each size has its own call, so that a column compiles to one store.
 fn stretch(out: &mut [u8], x: Dots, size: usize, bits: u16, on: u8, off: u8)
     requires { ⌜ ((1 ≤ size) × (size ≤ 4)) × (x .0 ≤ 65536) ⌝ }
     ensures { λ _. ⌜ now (out .exit) ≡ overlay (stretched (x .0) (12 * size) size bits on off) (now (out .entry)) ⌝ }
@@ -444,16 +445,28 @@ fn stretch_by(out: &mut [u8], x: Dots, size: usize, bits: u16, on: u8, off: u8)
     ensures { λ _. ⌜ now (out .exit) ≡ overlay (stretched (x .0) (12 * size) size bits on off) (now (out .entry)) ⌝ }
 {
     let from = x.0;
-    if out.len() <= from {
+    let mut j = 0;
+    while j < CELL_COLUMNS {
+        span(out, from + j * size, size, bit_byte(bits, j, on, off));
+        j += 1;
+    }
+}
+
+// n dots of one byte from `from` on, cut where the line ends. The loop for dots that all fit has n turns, so that it compiles to one store.
+fn span(out: &mut [u8], from: usize, n: usize, byte: u8)
+    requires { ⌜ (from ≤ 131072) × (n ≤ 4) ⌝ }
+    ensures { λ _. ⌜ now (out .exit) ≡ overlay (patched from n (λ d. byte)) (now (out .entry)) ⌝ }
+{
+    let mut i = 0;
+    if from + n <= out.len() {
+        while i < n {
+            out[from + i] = byte;
+            i += 1;
+        }
         return;
     }
-    let mut n = CELL_COLUMNS * size;
-    if out.len() - from < n {
-        n = out.len() - from;
-    }
-    let mut i = 0;
-    while i < n {
-        out[from + i] = bit_byte(bits, i / size, on, off);
+    while from + i < out.len() {
+        out[from + i] = byte;
         i += 1;
     }
 }

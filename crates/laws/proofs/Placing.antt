@@ -5,7 +5,7 @@ use mathlib.Core.Path.{_≡_, refl}
 use mathlib.Core.Bool.{Bool, true, false}
 use mathlib.Core.Logic.{_⊎_, inl, inr, ⊎-elim}
 use Prim.Native.Nat.{ℕ, _+_, _*_, _/_, _-_, _<_, _≤_}
-use native.Mathlib.Nat.{div-lt-iff-lt-mul}
+use native.Mathlib.Nat.{div-lt-iff-lt-mul, div-eq-of-lt-le}
 use native.Mathlib.Omega.{arith}
 use borrow.Author.Tests.{leb-true, le-leb, lt-leb, lt-ltb, le-ltb, ltb-true}
 use lib.Dec.{leb, ltb}
@@ -98,6 +98,10 @@ part-below n size i lt = ⊎-elim (λ (some : 1 ≤ size). div-lt-iff-lt-mul som
         let e : size ≡ 0 = omega arith in
         let d : i < n * 0 = rw e at lt in
         omega arith
+
+-- the part that i is in, by its bounds
+pub part-at : (j size i : ℕ) → j * size ≤ i → i < j * size + size → i / size ≡ j
+part-at j size i le lt = div-eq-of-lt-le size le (omega arith)
 
 -- counted from where the parts begin
 pub share-below : (n size at from : ℕ) → from ≤ at → at < from + n * size → (at - from) / size < n
