@@ -78,6 +78,58 @@ void dirgeflint_dac_write_high(dirgeflint_dac *dac, uint8_t byte);
  */
 dirgeflint_answer dirgeflint_dac_play(dirgeflint_dac *dac, uint32_t clocks, uint8_t *levels, size_t levels_length);
 
+/*
+ * The write port of the display: three registers and the 64 words of the display RAM. It goes by value.
+ * Every call uses and gives back the kept bits only, also of a port that the host made up: 6 of the address, 4 of the attribute, 6 of the character
+ * register, 10 of each word.
+ */
+typedef struct dirgeflint_port {
+    uint8_t address;
+    uint8_t attribute;
+    uint8_t character;
+    uint16_t words[64];
+} dirgeflint_port;
+
+/* The port after reset: 0 everywhere. */
+dirgeflint_port dirgeflint_port_fresh(void);
+
+/* The port after a write to the register named. */
+dirgeflint_port dirgeflint_port_write_address(dirgeflint_port port, uint8_t byte);
+dirgeflint_port dirgeflint_port_write_attribute(dirgeflint_port port, uint8_t byte);
+
+/* A write to the character register also stores a word, the code written and the attribute, at the address, and moves the address on by one,
+ * from 63 to 0. */
+dirgeflint_port dirgeflint_port_write_character(dirgeflint_port port, uint8_t byte);
+
+/* What the painter is told beside words and font. Colours are 4 for red plus 2 for green plus 1 for blue. */
+typedef struct dirgeflint_settings {
+    bool on;            /* off: every dot is video */
+    uint32_t mode;      /* 0 to 3 */
+    uint32_t colour;    /* starting background, 0 to 7 */
+    uint32_t h;         /* rows start at dot 4h; 0 to 63 */
+    uint32_t v;         /* the first row starts at line 4v; 0 to 63 */
+    uint32_t ratio;     /* blink: lit for the first 3/4, 1/2 or 1/4 of each D frames, for 0, 1, 2 */
+    uint32_t frequency; /* blink: D is 16, 32, 64 or 128 frames, for 0 to 3 */
+} dirgeflint_settings;
+
+/*
+ * Paints the first width dots of a scan line to the first bytes of dots: 0 for video, else 8 plus the colour. Later bytes stay.
+ *
+ * words   the 64 words of the display RAM, each at most 1023
+ * font    the 62 cells of 18 rows, top row first, each row at most 4095 with the leftmost dot in bit 11: 1,116 rows
+ * frame   any number; blinking goes by its remainder
+ *
+ * Refuses 1: mode, colour, h, v, ratio or frequency outside its range (ratio 3 is in range, and reserved)
+ *         2: ratio 3
+ *         3: not 64 words, or a word above 1023
+ *         4: not 1,116 rows, or a row above 4095
+ *         5: line above 1023 or width above 1024
+ *         6: dots_length below width
+ */
+dirgeflint_answer dirgeflint_paint(const uint16_t *words, size_t words_length, const uint16_t *font, size_t font_length,
+                                   dirgeflint_settings settings, uint32_t frame, uint32_t line, uint32_t width, uint8_t *dots,
+                                   size_t dots_length);
+
 #ifdef __cplusplus
 }
 #endif
