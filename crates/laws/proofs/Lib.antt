@@ -1,2 +1,4 @@
 pub mod Determined
+pub mod Mapped
+pub mod Scan
 pub mod Tests

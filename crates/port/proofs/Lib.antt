@@ -1,0 +1,2 @@
+pub mod KeptForm
+pub mod Unique

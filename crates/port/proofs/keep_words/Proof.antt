@@ -1,0 +1,69 @@
+-- `port::keep_words`. The loop's invariant: the words passed are cut to their kept bits, the others are as they were.
+-- Assumes nothing.
+use Prim.Native.Nat.{ℕ, _+_, _≤_, _-_}
+use mathlib.Core.Path.{_≡_, refl, ap, _∙_}
+use native.Mathlib.Omega.{arith}
+use lib.ListN.{length}
+use Rattle.laws.proofs.Mapped.{mapped, mapped-length, mapped-more, mapped-all}
+use Rattle.port.specs.Port.{keptWord}
+use Rattle.port.proofs.keep_words.Statement.{statement}
+use Rattle.port.proofs.keep_words.Tie as tie
+
+abbrev Inv-loop : tie.InvT-loop
+Inv-loop words₀ i₀ words i = (i ≤ length words₀) × ((words ≡ mapped keptWord i words₀) × (length words ≡ length words₀))
+
+abbrev μ-loop : tie.MeasureT-loop
+μ-loop words₀ i₀ words i = length words₀ - i
+
+loop-holds : tie.Need-loop-holds Inv-loop μ-loop
+loop-holds c = (omega arith, (refl, refl))
+
+mul-words : tie.Need-mul-words Inv-loop μ-loop
+mul-words c = omega arith
+
+slice-read-words : tie.Need-slice-read-words Inv-loop μ-loop
+slice-read-words c = omega arith
+
+mul-words-2 : tie.Need-mul-words-2 Inv-loop μ-loop
+mul-words-2 c = omega arith
+
+slice-write-words : tie.Need-slice-write-words Inv-loop μ-loop
+slice-write-words c = omega arith
+
+add-i : tie.Need-add-i Inv-loop μ-loop
+add-i c = omega arith
+
+loop-less : tie.Need-loop-less Inv-loop μ-loop
+loop-less c = omega arith
+
+loop-again : tie.Need-loop-again Inv-loop μ-loop
+loop-again c =
+    let a = c .before .before .before .args in
+    let l = c .before .before .loop in
+    let e = mapped-more keptWord (l .i) (a .words .now) (l .words) (l .inv .1 .0) (omega arith) in
+    (omega arith, (e, ap length e ∙ mapped-length keptWord (l .i + 1) (a .words .now)))
+
+same-length : tie.Need-same-length Inv-loop μ-loop
+same-length c = omega arith
+
+returns : tie.Need-returns Inv-loop μ-loop
+returns c =
+    let l = c .before .loop in
+    l .inv .1 .0 ∙ mapped-all keptWord (l .i) (c .before .before .args .words .now) (omega arith)
+
+pub keep-words-spec : {M : Type 1} → statement M
+keep-words-spec =
+    tie.close
+    (tie.spec
+    Inv-loop
+    μ-loop
+    loop-holds
+    mul-words
+    slice-read-words
+    mul-words-2
+    slice-write-words
+    add-i
+    loop-less
+    loop-again
+    same-length
+    returns)
