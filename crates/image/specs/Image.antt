@@ -9,6 +9,7 @@ use lib.Dec.{ltb, eqb}
 use lib.ListN.{length, getD}
 use Rattle.laws.specs.Pick.{pick, both}
 use Rattle.laws.specs.Said.{Said, accepted, refused}
+use Rattle.font.specs.Font.{fontCells, cellRows, fontRows, rowOf}
 use Rattle.image.specs.Lists.{tabulate, firstOf}
 use Rattle.image.specs.declared.Turned.{Turned}
 use Rattle.image.specs.declared.Turned.the-variants.{Done, NotAFont}
@@ -19,23 +20,26 @@ imageBytes = 8192
 abbrev pub halfBytes : ℕ
 halfBytes = 4096
 
-abbrev pub fontRows : ℕ
-fontRows = 1116
+-- how far apart the cells lie in a half
+abbrev pub stride : ℕ
+stride = 32
 
--- whether a row of the font has a part at the address: 62 cells, 32 bytes apart in a half, 18 rows in each
+-- the cell and the line whose bits an address can hold
+abbrev pub cellAt : ℕ → ℕ
+cellAt address = address % halfBytes / stride
+
+abbrev pub lineAt : ℕ → ℕ
+lineAt address = address % stride
+
+-- whether it does: there is such a row
 abbrev pub hasRow : ℕ → Bool
-hasRow address = both (ltb (address % halfBytes / 32) 62) (ltb (address % 32) 18)
-
--- the place in the font of that row
-abbrev pub rowAt : ℕ → ℕ
-rowAt address = 18 * (address % halfBytes / 32) + address % 32
+hasRow address = both (ltb (cellAt address) fontCells) (ltb (lineAt address) cellRows)
 
 -- the byte of a font's image at an address
 unfoldable pub dueAt : List ℕ → ℕ → ℕ
 dueAt font address =
-    pick (hasRow address)
-    (pick (ltb address halfBytes) (getD font (rowAt address) 0 % 256) (240 + getD font (rowAt address) 0 / 256))
-    255
+    let row = rowOf font (cellAt address) (lineAt address) in
+    pick (hasRow address) (pick (ltb address halfBytes) (row % 256) (240 + row / 256)) 255
 
 -- the image of a font
 abbrev pub imageOf : List ℕ → List ℕ
@@ -43,15 +47,15 @@ imageOf font = tabulate imageBytes (dueAt font)
 
 -- where in the first half row i of the font has its low bits
 abbrev pub lowAt : ℕ → ℕ
-lowAt i = 32 * (i / 18) + i % 18
+lowAt i = stride * (i / cellRows) + i % cellRows
 
 -- row i of the font of an image
-unfoldable pub rowOf : List ℕ → ℕ → ℕ
-rowOf image i = getD image (lowAt i) 0 + 256 * (getD image (halfBytes + lowAt i) 0 % 16)
+unfoldable pub rowIn : List ℕ → ℕ → ℕ
+rowIn image i = getD image (lowAt i) 0 + 256 * (getD image (halfBytes + lowAt i) 0 % 16)
 
 -- the font of an image
 abbrev pub fontOf : List ℕ → List ℕ
-fontOf image = tabulate fontRows (rowOf image)
+fontOf image = tabulate fontRows (rowIn image)
 
 -- the least byte that has every bit set that must be set at an address, whatever the font: all eight, or the upper four, or none
 unfoldable pub leastAt : ℕ → ℕ

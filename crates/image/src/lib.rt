@@ -2,7 +2,7 @@
 ghost use mathlib.Core.Path.{_≡_};
 ghost use Prim.Native.Nat.{_<_};
 ghost use lib.ListN.{length};
-ghost use Rattle.image.specs.Image.{leastAt, firstLack, fontOf, rowOf, answerOf, leftOf, said};
+ghost use Rattle.image.specs.Image.{leastAt, firstLack, fontOf, rowIn, answerOf, leftOf, said};
 
 const IMAGE_BYTES: usize = 8192;
 const HALF_BYTES: usize = 4096;
@@ -76,7 +76,7 @@ fn fill(image: &[u8], font: &mut [u16])
 
 fn row(image: &[u8], i: usize) -> u16
     requires { ⌜ (length (now image) ≡ 8192) × (i < 1116) ⌝ }
-    ensures { λ r. ⌜ r ≡ rowOf (now (image .entry)) i ⌝ }
+    ensures { λ r. ⌜ r ≡ rowIn (now (image .entry)) i ⌝ }
 {
     let low = 32 * (i / 18) + i % 18;
     (image[low] as u16) + 256 * ((image[HALF_BYTES + low] % 16) as u16)

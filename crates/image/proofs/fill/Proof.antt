@@ -1,6 +1,6 @@
 use Rattle.image.proofs.Lists.{Filled, filled-none, filled-more, filled-whole}
 use borrow.Author.Needs.{needs}
-use Rattle.image.specs.Image.{rowOf}
+use Rattle.image.specs.Image.{rowIn}
 use native.Mathlib.Omega.{arith}
 use lib.ListN.{length}
 use mathlib.Core.Path.{refl, sym, _∙_, ap}
@@ -12,7 +12,7 @@ use Rattle.image.proofs.fill.Lts as lts
 use Rattle.image.proofs.row.Reads as row-reads
 
 abbrev Inv-loop : tie.InvT-loop
-Inv-loop image font₀ i₀ font i = (i ≤ 1116) × Filled (rowOf image) i font font₀
+Inv-loop image font₀ i₀ font i = (i ≤ 1116) × Filled (rowIn image) i font font₀
 
 abbrev μ-loop : tie.MeasureT-loop
 μ-loop image font₀ i₀ font i = 1116 - i

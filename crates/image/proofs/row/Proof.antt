@@ -1,5 +1,5 @@
 use Prim.Native.Nat.{_+_, _*_, _/_, _%_}
-use Rattle.image.specs.Image.{rowOf}
+use Rattle.image.specs.Image.{rowIn}
 use mathlib.Core.Path.{refl}
 use native.Mathlib.Omega.{arith}
 use borrow.Author.Needs.{needs}
@@ -36,7 +36,7 @@ add-result-2 : tie.Need-add-result-2
 add-result-2 c = let i = c .before .before .args .i in omega (arith, c .before .shared-slice-known .given (32 * (i / 18) + i % 18))
 
 returns : tie.Need-returns
-unfolding rowOf
+unfolding rowIn
 returns c = refl
 
 pub row-spec : {M : Type 1} → statement M
