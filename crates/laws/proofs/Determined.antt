@@ -1,8 +1,9 @@
 -- What it is for a contract to determine the answer and the later contents of everything lent, said of the contract's own clauses.
 -- A crate's proofs/Unique.antt has a `NAME-unique : Determines ..` for each of its public functions; `both-say` proves it where the one
--- `ensures` is a plain fact: of two answers that meet it, it asks that they, and what they leave, are equal.
+-- `ensures` is a plain fact: of two answers that meet it, it asks that they, and what they leave, are equal. Where the promise goes through
+-- a definition of the answer, as `said`, `told-apart` gives the answers back from what is said of them.
 -- Assumes nothing.
-use mathlib.Core.Path.{_≡_}
+use mathlib.Core.Path.{_≡_, sym, ap, _∙_}
 use base.Logic.{ent}
 use contract.Lifetimes.{Lfts}
 use contract.Monad.{conj, conjL, conjR, fact, factI, fact-use}
@@ -26,3 +27,7 @@ module _ (w : World) where
   both-say {φ} {ψ} {χ} f =
       fact-use (w .𝓤) φ (conjL (w .𝓤) (fact (w .𝓤) φ) (fact (w .𝓤) ψ))
       (λ p. fact-use (w .𝓤) ψ (conjR (w .𝓤) (fact (w .𝓤) φ) (fact (w .𝓤) ψ)) (λ q. factI (w .𝓤) χ _ (f p q)))
+
+-- a definition that can be undone gives different things different values
+pub told-apart : {A B : Type 0} (f : A → B) (undo : B → A) → ((x : A) → undo (f x) ≡ x) → (x y : A) → f x ≡ f y → x ≡ y
+told-apart f undo back x y e = sym (back x) ∙ ap undo e ∙ back y

@@ -14,11 +14,11 @@ abbrev pub bitsOf : ℕ → ℕ
 bitsOf channel = pick (leb channel 3) 7 6
 
 -- their periods in clocks
-abbrev pub periodOf : ℕ → ℕ
+unfoldable pub periodOf : ℕ → ℕ
 periodOf channel = pick (leb channel 3) 128 64
 
 -- the number that a channel keeps of a byte
-abbrev pub keptOf : ℕ → ℕ → ℕ
+unfoldable pub keptOf : ℕ → ℕ → ℕ
 keptOf channel byte = byte % 2 ^ bitsOf channel
 
 -- the level at clock t of the period: high is 1

@@ -1,0 +1,36 @@
+// The eight small outputs.
+ghost use mathlib.Core.Path.{_≡_};
+ghost use Rattle.dirgeflint.specs.Face.{told};
+ghost use Rattle.pulse.specs.Pulse.{answerOf, said};
+use crate::Answer;
+use pulse::Level;
+
+// The level of a channel at clock t of its period, after byte was written to it: value 1 for high and 0 for low.
+#[no_mangle]
+pub extern "C" fn dirgeflint_pulse_level(channel: u32, byte: u8, t: u32) -> Answer
+    ensures { λ r. ⌜ told r ≡ answerOf channel byte t ⌝ }
+{
+    level_answer(pulse::level_at(channel, byte, t))
+}
+
+fn level_answer(level: Level) -> Answer
+    ensures { λ r. ⌜ told r ≡ said level ⌝ }
+{
+    match level {
+        Level::Low => Answer {
+            number: 0,
+            place: 0,
+            value: 0,
+        },
+        Level::High => Answer {
+            number: 0,
+            place: 0,
+            value: 1,
+        },
+        Level::NoSuchClock => Answer {
+            number: 15,
+            place: 0,
+            value: 0,
+        },
+    }
+}
