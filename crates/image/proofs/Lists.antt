@@ -11,8 +11,13 @@ use native.Mathlib.Decide.{ℕ-discrete, decLt}
 use native.Mathlib.Omega.{arith}
 use lib.ListN.{length, getD, set, drop, length-append, length-drop, length-set, List·getD-append}
 use lib.Seq.{ext-getD, getD-set-same, getD-set-other, getD-append-add, getD-drop}
-use Rattle.laws.specs.Pick.{pick}
+use Rattle.laws.specs.Pick.{pick, both}
 use Rattle.image.specs.Lists.{tabulate, firstOf}
+
+-- both tests hold where their conjunction does
+pub both-parts : (a b : Bool) → both a b ≡ true → (a ≡ true) × (b ≡ true)
+both-parts true b e = (refl, e)
+both-parts false b e = let z : _≡_ {A = ℕ} 0 1 = cc in absurd (omega arith)
 
 pub length-tabulate : {A : Type 0} (n : ℕ) (f : ℕ → A) → length (tabulate n f) ≡ n
 unfolding tabulate

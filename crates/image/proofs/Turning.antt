@@ -17,11 +17,7 @@ use Rattle.laws.specs.Within.{within}
 use Rattle.font.specs.Font.{isFont, rowOf}
 use Rattle.image.specs.Lists.{tabulate}
 use Rattle.image.specs.Image.{imageOf, fontOf, dueAt, rowIn, lowAt, cellAt, lineAt, hasRow, leastAt, lacksAt, firstLack, answerOf}
-use Rattle.image.proofs.Lists.{length-tabulate, getD-tabulate, is-tabulate, first-none, first-before}
-
-both-parts : (a b : Bool) → both a b ≡ true → (a ≡ true) × (b ≡ true)
-both-parts true b e = (refl, e)
-both-parts false b e = let z : _≡_ {A = ℕ} 0 1 = cc in absurd (omega arith)
+use Rattle.image.proofs.Lists.{length-tabulate, getD-tabulate, is-tabulate, first-none, first-before, both-parts}
 
 within-at : (most : ℕ) (l : List ℕ) → within most l ≡ true → (k : ℕ) → getD l k 0 ≤ most
 unfolding within
