@@ -1,3 +1,4 @@
 pub mod Lines
 pub mod Shape
 pub mod Steps
+pub mod Place

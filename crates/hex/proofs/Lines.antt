@@ -58,6 +58,20 @@ first-here c s e = go (eqb c 10) refl s e
     go false h [] e = refl
     go false h (d ∷ s) e = rw (both-parts (eqb c 13) (eqb d 10) e .1)
 
+pub end-fits : (s : List ℕ) → atEnd s ≡ true → endLength s ≤ length s
+unfolding atEnd
+end-fits [] e = omega arith
+end-fits (c ∷ []) e = go (eqb c 10) e
+  where
+    go : (b : Bool) → pick b true (both (eqb c 13) false) ≡ true → pick b 1 2 ≤ 1
+    go true e = omega arith
+    go false e = let z : _≡_ {A = ℕ} 0 1 = cc (both-parts (eqb c 13) false e .1) in absurd (omega arith)
+end-fits (c ∷ (d ∷ s)) e = go (eqb c 10)
+  where
+    go : (b : Bool) → pick b 1 2 ≤ suc (suc (length s))
+    go true = omega arith
+    go false = omega arith
+
 pub first-cut : (m : ℕ) (s : List ℕ) → 0 < length s → m ≤ length s → ((k : ℕ) → k < m → Plain (getD s k 0)) → atEnd (drop m s) ≡ true
     → lines s ≡ take (m + endLength (drop m s)) s ∷ lines (drop (m + endLength (drop m s)) s)
 unfolding lines

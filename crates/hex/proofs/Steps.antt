@@ -39,6 +39,18 @@ module _ (text : List ℕ) (place : ℕ) where
       let next : getD (drop (suc place) text) 0 0 ≡ getD text (place + 1) 0 = getD-drop (suc place) text 0 0 ∙ ap (λ n. getD text n 0) (omega arith) in
       rw (drop-cons text place 0 h, next)
 
+  pub past-some : atEnd (drop place text) ≡ true → pastEnd text place ≡ place + endLength (drop place text)
+  unfolding pastEnd
+  past-some e = rw e
+
+  pub past-ends : (pastEnd text place ≡ 0 → ⊥) → atEnd (drop place text) ≡ true
+  unfolding pastEnd
+  past-ends h = go (atEnd (drop place text)) h
+    where
+      go : (b : Bool) → (pick b (place + endLength (drop place text)) 0 ≡ 0 → ⊥) → b ≡ true
+      go true h = refl
+      go false h = absurd (h refl)
+
 -- one byte more
 pub total-more : (i : ℕ) (f : ℕ → ℕ) → total (tabulate (i + 1) f) ≡ total (tabulate i f) + f i
 unfolding total tabulate
