@@ -2,3 +2,6 @@ pub mod Lines
 pub mod Shape
 pub mod Steps
 pub mod Place
+pub mod Given
+pub mod Faults
+pub mod Passed

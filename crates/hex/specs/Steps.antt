@@ -5,7 +5,7 @@ use Prim.Native.Nat.{ℕ, _+_, _-_, _*_, _%_}
 use mathlib.Core.Bool.{Bool}
 use mathlib.Core.List.{List, [], _∷_}
 use lib.Dec.{eqb, leb, ltb}
-use lib.ListN.{length, getD, take, drop}
+use lib.ListN.{length, getD, take, drop, replicate}
 use Rattle.laws.specs.Pick.{pick, both}
 use Rattle.image.specs.Lists.{tabulate}
 use Rattle.hex.specs.Digits.{digit, byteAt}
@@ -45,6 +45,10 @@ nextAt text place = place + length (getD (lines (drop place text)) 0 [])
 
 unfoldable pub lineAt : List ℕ → ℕ → Line
 lineAt text place = pick (isShaped (bodyOf (drop place text))) (Shaped (sumOf (recordAt text place)) (nextAt text place)) Unshaped
+
+-- the scratch before any record
+unfoldable pub blank : List ℕ
+blank = replicate 8192 256
 
 -- the scratch with n bytes, data after a record's first four, stored at an address
 unfoldable pub storedAt : List ℕ → ℕ → ℕ → List ℕ → ℕ → ℕ

@@ -74,6 +74,12 @@ first-before (suc n) test j h = go (first-before n (λ k. test (suc k))) (test 0
     go rest false e zero h = e
     go rest false e (suc j) h = rest j (le-of-suc-le-suc h)
 
+pub first-same : (n : ℕ) (test test′ : ℕ → Bool) → ((k : ℕ) → k < n → test k ≡ test′ k) → firstOf n test ≡ firstOf n test′
+unfolding firstOf
+first-same zero test test′ h = refl
+first-same (suc n) test test′ h =
+    rw (h 0 (omega arith), first-same n (λ k. test (suc k)) (λ k. test′ (suc k)) (λ k l. h (suc k) (omega arith)))
+
 -- l is l₀ with the rule's values at its first i places
 pub record Filled (f : ℕ → ℕ) (i : ℕ) (l l₀ : List ℕ) : Type 0 where
   pub size : length l ≡ length l₀
