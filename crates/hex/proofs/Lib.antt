@@ -5,3 +5,4 @@ pub mod Place
 pub mod Given
 pub mod Faults
 pub mod Passed
+pub mod Answers
