@@ -6,3 +6,5 @@ pub mod Given
 pub mod Faults
 pub mod Passed
 pub mod Answers
+pub mod Outcomes
+pub mod Unique

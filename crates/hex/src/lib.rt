@@ -66,6 +66,31 @@ pub enum Outcome {
     BadEnd(u32),
 }
 
+// The image that a text spells, into the first 8,192 bytes lent. A refusal leaves them as they were: the records are collected in a scratch,
+// where 256 stands for a byte that none of them gave.
+pub fn read(text: &[u8], image: &mut [u8]) -> Outcome
+    ensures { λ r. ⌜ (said r ≡ answerOf (now (text .entry)) (length (now (image .entry))))
+        × (now (image .exit) ≡ leftOf (now (text .entry)) (now (image .entry))) ⌝ }
+{
+    if image.len() < IMAGE_BYTES {
+        return Outcome::NoRoom;
+    }
+    if MOST_TEXT < text.len() {
+        return Outcome::BadShape(0);
+    }
+    let digits = DIGITS;
+    let mut bytes = [0u8; 260];
+    let mut cells = [256u16; 8192];
+    let outcome = collect(&digits, text, &mut bytes, &mut cells);
+    match outcome {
+        Outcome::Done(_) => {
+            copy_out(&cells, image);
+            outcome
+        }
+        _ => outcome,
+    }
+}
+
 // The text's records into the scratch, with the answer. bytes is room for one record.
 fn collect(digits: &[u8], text: &[u8], bytes: &mut [u8], cells: &mut [u16]) -> Outcome
     requires { ⌜ (now digits ≡ digitTable) × (length (now text) ≤ 65535) × (length (now bytes) ≡ 260) × (now cells ≡ blank) ⌝ }
