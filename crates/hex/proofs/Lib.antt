@@ -5,3 +5,6 @@ pub mod Place
 pub mod Given
 pub mod Faults
 pub mod Passed
+pub mod Answers
+pub mod Outcomes
+pub mod Unique

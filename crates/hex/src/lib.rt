@@ -6,8 +6,9 @@ ghost use mathlib.Core.List.{_++_};
 ghost use lib.Dec.{eqb, ltb};
 ghost use lib.ListN.{length, getD, take, drop};
 ghost use Rattle.image.specs.Lists.{tabulate, firstOf};
-ghost use Rattle.hex.specs.Steps.{digitTable, bytesFrom, sumFrom, pastEnd, recordAt, lineAt, storedAt, byteOf};
-ghost use Rattle.hex.specs.Reading.{answerOf, leftOf, said};
+ghost use Rattle.hex.specs.Records.{records, byteIn};
+ghost use Rattle.hex.specs.Steps.{blank, digitTable, bytesFrom, sumFrom, pastEnd, recordAt, lineAt, storedAt, byteOf};
+ghost use Rattle.hex.specs.Reading.{answerOf, leftOf, said, verdict};
 
 const IMAGE_BYTES: usize = 8192;
 
@@ -21,6 +22,11 @@ const COLON: u8 = 58;
 
 // The bytes of a record beside its data: length, address (two), type, checksum.
 const FRAME: usize = 5;
+
+// The types of a data record and of the end record.
+const DATA: u8 = 0;
+
+const END: u8 = 1;
 
 // The value of each byte as a hexadecimal digit of either case, or 16.
 const DIGITS: [u8; 256] = [
@@ -58,6 +64,77 @@ pub enum Outcome {
     GivenTwice(u32),
     // No end record, or something here after its line.
     BadEnd(u32),
+}
+
+// The image that a text spells, into the first 8,192 bytes lent. A refusal leaves them as they were: the records are collected in a scratch,
+// where 256 stands for a byte that none of them gave.
+pub fn read(text: &[u8], image: &mut [u8]) -> Outcome
+    ensures { λ r. ⌜ (said r ≡ answerOf (now (text .entry)) (length (now (image .entry))))
+        × (now (image .exit) ≡ leftOf (now (text .entry)) (now (image .entry))) ⌝ }
+{
+    if image.len() < IMAGE_BYTES {
+        return Outcome::NoRoom;
+    }
+    if MOST_TEXT < text.len() {
+        return Outcome::BadShape(0);
+    }
+    let digits = DIGITS;
+    let mut bytes = [0u8; 260];
+    let mut cells = [256u16; 8192];
+    let outcome = collect(&digits, text, &mut bytes, &mut cells);
+    match outcome {
+        Outcome::Done(_) => {
+            copy_out(&cells, image);
+            outcome
+        }
+        _ => outcome,
+    }
+}
+
+// The text's records into the scratch, with the answer. bytes is room for one record.
+fn collect(digits: &[u8], text: &[u8], bytes: &mut [u8], cells: &mut [u16]) -> Outcome
+    requires { ⌜ (now digits ≡ digitTable) × (length (now text) ≤ 65535) × (length (now bytes) ≡ 260) × (now cells ≡ blank) ⌝ }
+    ensures { λ r. ⌜ (said r ≡ verdict (now (text .entry)))
+        × (said r .number ≡ 0 → now (cells .exit) ≡ tabulate 8192 (byteIn 256 (records (now (text .entry))))) ⌝ }
+{
+    let mut at = 0usize;
+    let mut count = 0u32;
+    while at < text.len() {
+        let Line::Shaped { sum, next } = parse(digits, text, at, bytes) else {
+            return Outcome::BadShape(at as u32);
+        };
+        if sum != 0 {
+            return Outcome::BadSum(at as u32);
+        }
+        let n = bytes[0] as usize;
+        let address = 256 * (bytes[1] as usize) + bytes[2] as usize;
+        let kind = bytes[3];
+        if kind == END {
+            if n != 0 {
+                return Outcome::BadType(at as u32);
+            }
+            if address != 0 {
+                return Outcome::BadType(at as u32);
+            }
+            if next < text.len() {
+                return Outcome::BadEnd(next as u32);
+            }
+            return Outcome::Done(count);
+        }
+        if kind != DATA {
+            return Outcome::BadType(at as u32);
+        }
+        if IMAGE_BYTES < address + n {
+            return Outcome::PastEnd(at as u32);
+        }
+        if store(bytes, n, address, cells) {
+            count += n as u32;
+            at = next;
+        } else {
+            return Outcome::GivenTwice(at as u32);
+        }
+    }
+    Outcome::BadEnd(at as u32)
 }
 
 // One line: not of the record's shape, or its eight-bit sum and where the next line starts.
