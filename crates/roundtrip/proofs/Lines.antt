@@ -3,21 +3,21 @@
 -- Assumes nothing.
 use mathlib.Core.Path.{_≡_, refl, sym, _∙_, ap}
 use mathlib.Core.Bool.{Bool, true, false}
-use mathlib.Core.List.{List, [], _∷_, _++_, map, flatMap, append-assoc, append-nil}
+use mathlib.Core.List.{List, [], _∷_, _++_, flatMap, append-assoc, append-nil}
 use Prim.Native.Nat.{ℕ, zero, suc, _+_, _-_, _*_, _/_, _%_, _<_, _≤_}
 use native.Mathlib.Nat.{le-of-suc-le-suc, not-suc-le-zero}
 use native.Mathlib.Omega.{arith}
 use lib.Dec.{eqb, ltb, eqb→eq}
-use lib.ListN.{length, getD, drop}
+use lib.ListN.{length, getD}
 use borrow.Author.Tests.{lt-ltb, ne-eqb, eq-eqb}
-use Rattle.laws.specs.Pick.{pick, both}
-use Rattle.laws.proofs.Tests.{upto, upto-at}
+use Rattle.laws.specs.Pick.{pick}
+use Rattle.laws.proofs.Tests.{upto-at}
 use Rattle.image.specs.Lists.{tabulate}
 use Rattle.image.proofs.Lists.{is-tabulate}
 use Rattle.hex.specs.Digits.{digit, byteAt}
-use Rattle.hex.specs.Lines.{lines, onto, atEnd, bodyOf, LF}
+use Rattle.hex.specs.Lines.{lines, atEnd, bodyOf, LF}
 use Rattle.hex.specs.Records.{colon, allDigits, isShaped, spelledBy, recordOf, records, lengthOf}
-use Rattle.writer.specs.Text.{digitText, byteText, bytesText, recordText}
+use Rattle.writer.specs.Text.{digitText, bytesText, recordText}
 use Rattle.writer.proofs.Spelling.{bytes-length}
 
 -- a digit's character spells the digit, and is none of a line's end
@@ -37,9 +37,11 @@ lines-bytes : (bytes rest : List ℕ) → lines (bytesText bytes ++ (LF ∷ rest
 unfolding lines flatMap
 lines-bytes [] rest = refl
 lines-bytes (b ∷ bytes) rest =
-    rw
-    (ne-eqb (digitText (b / 16)) 10 (omega (arith, digit-high (b / 16))), ne-eqb (digitText (b % 16)) 10 (omega (arith, digit-high (b % 16))),
-     lines-bytes bytes rest)
+    rw (
+      ne-eqb (digitText (b / 16)) 10 (omega (arith, digit-high (b / 16))),
+      ne-eqb (digitText (b % 16)) 10 (omega (arith, digit-high (b % 16))),
+      lines-bytes bytes rest,
+    )
 
 body-bytes : (bytes : List ℕ) → bodyOf (bytesText bytes ++ (LF ∷ [])) ≡ bytesText bytes
 unfolding bodyOf atEnd flatMap
@@ -47,9 +49,13 @@ body-bytes [] = refl
 body-bytes (b ∷ bytes) =
     let high = digit-high (b / 16) in
     let low = digit-high (b % 16) in
-    simp
-    (ne-eqb (digitText (b / 16)) 10 (omega arith), ne-eqb (digitText (b / 16)) 13 (omega arith), ne-eqb (digitText (b % 16)) 10 (omega arith),
-     ne-eqb (digitText (b % 16)) 13 (omega arith), body-bytes bytes)
+    simp (
+      ne-eqb (digitText (b / 16)) 10 (omega arith),
+      ne-eqb (digitText (b / 16)) 13 (omega arith),
+      ne-eqb (digitText (b % 16)) 10 (omega arith),
+      ne-eqb (digitText (b % 16)) 13 (omega arith),
+      body-bytes bytes,
+    )
 
 -- all of it bytes
 abbrev pub Small : List ℕ → Type 0

@@ -2,18 +2,15 @@
 -- record is the last, and what they give together is the image.
 -- Assumes nothing.
 use mathlib.Core.Path.{_≡_, refl, sym, _∙_, ap}
-use mathlib.Core.Bool.{Bool, true, false}
-use mathlib.Core.List.{List, [], _∷_, _++_, map}
+use mathlib.Core.Bool.{true, false}
+use mathlib.Core.List.{List, [], _∷_, _++_}
 use Prim.Native.Nat.{ℕ, zero, suc, _+_, _-_, _*_, _/_, _%_, _<_, _≤_}
 use native.Mathlib.Nat.{le-of-suc-le-suc, not-suc-le-zero, mul-suc, mul-zero}
-use native.Mathlib.Decide.{decLt}
 use native.Mathlib.Omega.{arith}
-use lib.Dec.{ltb, leb}
 use lib.ListN.{length, getD, take, length-append, List·getD-append}
 use lib.Seq.{take-append-le, getD-at}
-use borrow.Author.Tests.{lt-ltb, le-ltb, le-leb, lt-leb}
-use Rattle.laws.specs.Pick.{pick, both}
-use Rattle.laws.specs.Said.{Said, accepted}
+use borrow.Author.Tests.{lt-ltb, le-ltb, le-leb}
+use Rattle.laws.specs.Said.{accepted}
 use Rattle.image.specs.Lists.{tabulate, firstOf}
 use Rattle.image.proofs.Lists.{length-tabulate, getD-tabulate, is-tabulate, first-is, first-none}
 use Rattle.hex.specs.Lines.{total}
@@ -56,14 +53,14 @@ unfolding recordBytes
 record-parts kind address count bytes hk ha hc size small =
     let front = length bytes ∷ address / 256 ∷ address % 256 ∷ kind ∷ bytes in
     let fronted : Small front =
-        small-cons (length bytes) (address / 256 ∷ address % 256 ∷ kind ∷ bytes) (omega arith)
-        (small-cons (address / 256) (address % 256 ∷ kind ∷ bytes) (omega arith) (small-cons (address % 256) (kind ∷ bytes) (omega arith) (small-cons kind bytes hk small))) in
+    small-cons (length bytes) (address / 256 ∷ address % 256 ∷ kind ∷ bytes) (omega arith)
+    (small-cons (address / 256) (address % 256 ∷ kind ∷ bytes) (omega arith) (small-cons (address % 256) (kind ∷ bytes) (omega arith) (small-cons kind bytes hk small))) in
     record {
       good = record { small = small-last front (checksum front) fronted (omega arith); size = length-append front (checksum front ∷ []) ∙ omega arith };
       summed = ap (λ n. n % 256) (total-last front (checksum front)) ∙ omega arith;
       typed = refl;
       placed = omega arith;
-      counted = size
+      counted = size;
     }
 
 -- the addresses that it gives
@@ -148,8 +145,8 @@ module _ (image : List ℕ) (small : Small image) where
       let p = data-parts k h in
       let r = recordIn image k in
       let fresh : firstOf (lengthOf r) (λ i. isGiven (tabulate k (recordIn image)) (addressOf r + i)) ≡ lengthOf r =
-          first-none (lengthOf r) _ (λ i g. given-none (addressOf r + i) k (recordIn image)
-          (λ j l. gives-later 0 (16 * j) 16 (recordIn image j) (data-parts j (omega arith)) (addressOf r + i) (omega (arith, p .placed)))) in
+      first-none (lengthOf r) _ (λ i g. given-none (addressOf r + i) k (recordIn image)
+      (λ j l. gives-later 0 (16 * j) 16 (recordIn image j) (data-parts j (omega arith)) (addressOf r + i) (omega (arith, p .placed)))) in
       fault-none (tabulate k (recordIn image)) r (omega (arith, p .good .size)) (p .summed)
       (other-type r (λ e. omega (arith, p .typed))) (p .typed) (omega (arith, p .placed, p .counted)) (omega (arith, fresh))
 

@@ -1,17 +1,17 @@
 -- The statements of specs/RoundTrip.antt, proved. The records of an image's text are the records that it was made of, so the reader accepts
 -- the text and gives the image back; all else follows from that and from image and font being one thing in two forms.
 -- Assumes nothing.
-use mathlib.Core.Path.{_≡_, refl, sym, _∙_, ap}
+use mathlib.Core.Path.{_≡_, sym, _∙_, ap}
 use mathlib.Core.Bool.{Bool, true, false}
 use mathlib.Core.List.{List, [], _∷_, _++_, map}
 use Prim.Native.Nat.{ℕ, _+_, _*_, _/_, _%_, _<_, _≤_}
 use native.Mathlib.Omega.{arith}
 use lib.Dec.{ltb}
-use lib.ListN.{length, getD, drop}
+use lib.ListN.{length, drop}
 use lib.Seq.{take-at}
 use borrow.Author.Tests.{le-ltb}
 use Rattle.laws.specs.Pick.{pick}
-use Rattle.laws.specs.Said.{Said, accepted}
+use Rattle.laws.specs.Said.{accepted}
 use Rattle.font.specs.Font.{isFont, rowOf}
 use Rattle.image.specs.Lists.{tabulate}
 use Rattle.image.specs.Image.{imageOf, fontOf, dueAt, hasRow, cellAt, lineAt}
@@ -20,15 +20,15 @@ use Rattle.image.proofs.Lists.{length-tabulate}
 use Rattle.image.proofs.Turning.{font-row, font-again, image-accepted, image-again, gives-font}
 use Rattle.hex.specs.Lines.{lines}
 use Rattle.hex.specs.Records.{recordOf, records, gives, dataAt, byteIn}
-use Rattle.hex.specs.Reading.{imageIn, stopOf, judged}
+use Rattle.hex.specs.Reading.{imageIn}
 use Rattle.hex.specs.Reading as reading
 use Rattle.hex.proofs.Given.{record-small}
 use Rattle.writer.specs.Text.{recordText, recordIn, endRecord, recordsOf, textOf}
 use Rattle.writer.specs.Writing as writing
 use Rattle.writer.proofs.Lists.{flat-append, flat-one}
 use Rattle.writer.proofs.Spelling.{text-length}
-use Rattle.roundtrip.specs.RoundTrip.{IsImage, TextReadsBack, writtenIn, readIn, ComesBack, FontComesBack, HasWritersForm, OneTextAnImage, IsTheTextOf, WritingGivesTheText, TurnedImageIsAFonts}
-use Rattle.roundtrip.proofs.Lines.{Small, Good, records-front, records-one}
+use Rattle.roundtrip.specs.RoundTrip.{IsImage, TextReadsBack, writtenIn, readIn, FontComesBack, HasWritersForm, OneTextAnImage, WritingGivesTheText, RewritingGivesTheText, TurnedImageIsAFonts}
+use Rattle.roundtrip.proofs.Lines.{Small, records-front, records-one}
 use Rattle.roundtrip.proofs.Records.{small-tabulate, end-parts, data-parts, image-judged, image-given}
 
 -- the text of an image
@@ -86,14 +86,14 @@ font-comes-back font text image rows e fits room size =
     let written = font-written font e text fits in
     let back = text-reads-back (imageOf font) image (font-image font e) room in
     let is : readIn font text image ≡ imageOf font =
-        rw (written, back .1) (take-at (imageOf font) (drop 8192 image) 8192 (length-tabulate 8192 (dueAt font))) in
+    rw (written, back .1) (take-at (imageOf font) (drop 8192 image) 8192 (length-tabulate 8192 (dueAt font))) in
     let turns : turning.answerOf (readIn font text image) (length rows) ≡ accepted 0 = rw (is, size) (image-accepted font) in
     record {
       writes = font-accepted font e text fits;
       reads = rw written (back .0);
       is-image = is;
       turns = turns;
-      is-font = rw turns (ap fontOf is ∙ font-again font e)
+      is-font = rw turns (ap fontOf is ∙ font-again font e);
     }
 
 pub one-text-an-image : OneTextAnImage
@@ -103,11 +103,14 @@ one-text-an-image text other f g same =
     f .form ∙ ap textOf (sym one ∙ same ∙ two) ∙ sym (g .form)
 
 pub writing-gives-the-text : WritingGivesTheText
-writing-gives-the-text text font room e same fits =
+writing-gives-the-text font room e fits =
     let written = font-written font e room fits in
     let formed : HasWritersForm (writtenIn font room) = record { image = imageOf font; whole = font-image font e; form = written } in
-    let has : imageIn (writtenIn font room) ≡ imageIn text = ap imageIn written ∙ text-image (imageOf font) (font-image font e) ∙ sym same in
+    let has : imageIn (writtenIn font room) ≡ imageOf font = ap imageIn written ∙ text-image (imageOf font) (font-image font e) in
     record { form = formed; has = has; only = λ other f g. one-text-an-image other (writtenIn font room) f formed (g ∙ sym has) }
+
+pub rewriting-gives-the-text : RewritingGivesTheText
+rewriting-gives-the-text text font room e same fits = rw same (writing-gives-the-text font room e fits)
 
 -- what records spell is bytes
 byte-small : (ls : List (List ℕ)) (a : ℕ) → byteIn 255 (map recordOf ls) a < 256

@@ -63,10 +63,14 @@ pub record IsTheTextOf (image text : List ℕ) : Type 0 where
   pub has : imageIn text ≡ image
   pub only : (other : List ℕ) → HasWritersForm other → imageIn other ≡ image → other ≡ text
 
--- Where a text's image is a font's, writing that font gives the one text of the writer's form with that image. (The reader need not accept
--- the text: the statement holds of what its records spell.)
+-- Writing a font gives the one text of the writer's form with the font's image.
 abbrev pub WritingGivesTheText : Type 0
-WritingGivesTheText =
+WritingGivesTheText = (font room : List ℕ) → isFont font ≡ true → textBytes ≤ length room → IsTheTextOf (imageOf font) (writtenIn font room)
+
+-- So where a text's image is a font's, writing that font gives the one text of the writer's form with the text's image. The text need not
+-- be accepted: this holds of what its records spell.
+abbrev pub RewritingGivesTheText : Type 0
+RewritingGivesTheText =
     (text font room : List ℕ) → isFont font ≡ true → imageIn text ≡ imageOf font → textBytes ≤ length room
     → IsTheTextOf (imageIn text) (writtenIn font room)
 

@@ -1,16 +1,16 @@
 -- Where the rows of a font lie in the records of its image: record n holds rows of cell n % 256 / 2, from its row 0 or 16 on, in its first
 -- bytes; the bytes after them are FF.
 -- Assumes nothing.
-use mathlib.Core.Path.{_≡_, refl, sym, _∙_, ap}
+use mathlib.Core.Path.{_≡_, sym, _∙_}
 use mathlib.Core.Bool.{Bool, true, false}
-use mathlib.Core.List.{List, [], _∷_}
-use Prim.Native.Nat.{ℕ, zero, suc, _+_, _-_, _*_, _/_, _%_, _<_, _≤_}
+use mathlib.Core.List.{List}
+use Prim.Native.Nat.{ℕ, _+_, _-_, _*_, _/_, _%_, _<_, _≤_}
 use native.Mathlib.Decide.{decLt, ℕ-discrete}
 use native.Mathlib.Omega.{arith}
 use lib.Dec.{ltb, eqb}
-use lib.ListN.{length, getD}
+use lib.ListN.{getD}
 use borrow.Author.Tests.{lt-ltb, le-ltb, eq-eqb, ne-eqb}
-use Rattle.laws.specs.Pick.{both, pick}
+use Rattle.laws.specs.Pick.{pick}
 use Rattle.image.specs.Lists.{tabulate}
 use Rattle.image.specs.Image.{imageOf, dueAt}
 use Rattle.image.proofs.Lists.{getD-tabulate, tabulate-same}

@@ -1,8 +1,8 @@
 -- The parts of a text: how long each is, and that a record's line is its front, its data and its back, stored in turn.
 -- Assumes nothing.
-use mathlib.Core.Path.{_≡_, refl, sym, _∙_, ap}
+use mathlib.Core.Path.{_≡_, refl, _∙_, ap}
 use mathlib.Core.List.{List, [], _∷_, _++_, flatMap, append-assoc}
-use Prim.Native.Nat.{ℕ, zero, suc, _+_, _-_, _*_, _/_, _%_, _≤_}
+use Prim.Native.Nat.{ℕ, suc, _+_, _-_, _*_, _/_, _%_, _≤_}
 use native.Mathlib.Nat.{mul-suc}
 use native.Mathlib.Omega.{arith}
 use lib.ListN.{length, getD, drop, set, length-append}
@@ -12,7 +12,7 @@ use Rattle.image.proofs.Lists.{length-tabulate}
 use Rattle.hex.specs.Lines.{LF, total}
 use Rattle.hex.specs.Records.{colon}
 use Rattle.hex.proofs.Steps.{sum-more}
-use Rattle.writer.specs.Text.{byteText, bytesText, checksum, recordBytes, recordText, bytesIn, recordIn, endRecord, recordsOf, textOf}
+use Rattle.writer.specs.Text.{byteText, bytesText, checksum, recordBytes, recordText, bytesIn, recordIn, endRecord, textOf}
 use Rattle.writer.specs.Steps.{frontText, backText}
 use Rattle.writer.proofs.Lists.{sets-three, flat-append, flat-one, flat-length, sets-more}
 
@@ -36,7 +36,7 @@ module _ (kind address : ℕ) (bytes : List ℕ) where
       let check = checksum (front ++ bytes) in
       ap (λ (l : List ℕ). colon ∷ l ++ (LF ∷ []))
       (flat-append byteText (front ++ bytes) (check ∷ []) ∙ ap (λ (l : List ℕ). bytesText (front ++ bytes) ++ l) (flat-one byteText check)
-        ∙ ap (λ (l : List ℕ). l ++ byteText check) (flat-append byteText front bytes))
+      ∙ ap (λ (l : List ℕ). l ++ byteText check) (flat-append byteText front bytes))
       ∙ simp append-assoc
 
 pub front-length : (at count high low kind : ℕ) → at + length (frontText count high low kind) ≡ at + 9
@@ -52,11 +52,11 @@ frame-sum bytes high low spelled first whole e g h = omega arith
 -- a data record's parts, stored in turn
 pub record-stored : (t : List ℕ) (at address : ℕ) (bytes : List ℕ) (sum : ℕ) → length bytes ≡ 16
     → sum ≡ total (16 ∷ address / 256 ∷ address % 256 ∷ 0 ∷ bytes) % 256
-    → sets (sets (sets t at (frontText 16 (address / 256) (address % 256) 0)) (at + 9) (bytesText bytes)) (at + 41) (backText sum)
+    → sets (sets (sets t at (frontText 16 (address / 256) (address % 256) 0)) (at + 9) (bytesText bytes)) (at + 9 + 32) (backText sum)
     ≡ sets t at (recordText (recordBytes 0 address bytes))
 record-stored t at address bytes sum size e =
     rw (record-parts 0 address bytes, size, e)
-    (sets-three t at (at + 9) (at + 41) (frontText 16 (address / 256) (address % 256) 0) (bytesText bytes)
+    (sets-three t at (at + 9) (at + 9 + 32) (frontText 16 (address / 256) (address % 256) 0) (bytesText bytes)
     (backText (total (16 ∷ address / 256 ∷ address % 256 ∷ 0 ∷ bytes) % 256)) (front-length at 16 (address / 256) (address % 256) 0) (omega (arith, bytes-length bytes)))
 
 -- its front, as it is stored
@@ -75,6 +75,11 @@ pub end-parts : recordText endRecord ≡ frontText 0 0 0 1 ++ backText 1
 unfolding recordText recordBytes endRecord frontText backText flatMap total
 end-parts = refl
 
+-- the end record's line is :00000001FF and LF
+pub end-line : recordText endRecord ≡ 58 ∷ 48 ∷ 48 ∷ 48 ∷ 48 ∷ 48 ∷ 48 ∷ 48 ∷ 49 ∷ 70 ∷ 70 ∷ 10 ∷ []
+unfolding recordText recordBytes endRecord flatMap total
+end-line = refl
+
 -- bytes given by a rule, spelled from a place on, and their eight-bit sum
 pub record Spelled (f : ℕ → ℕ) (at : ℕ) (t₀ : List ℕ) (i : ℕ) (sum : ℕ) (t : List ℕ) : Type 0 where
   pub size : length t ≡ length t₀
@@ -91,7 +96,7 @@ spelled-more f at t₀ i sum t byte sum′ t′ e put added s =
     record {
       size = ap length put ∙ length-sets t (at + 2 * i) (byteText byte) ∙ s .size;
       text = put ∙ ap (λ b. sets t (at + 2 * i) (byteText b)) e ∙ ap (λ l. sets l (at + 2 * i) (byteText (f i))) (s .text) ∙ sets-more byteText 2 f (λ k. refl) t₀ at i (at + 2 * i) refl;
-      summed = sum-more i f sum byte sum′ (s .summed) e added
+      summed = sum-more i f sum byte sum′ (s .summed) e added;
     }
 
 -- the text of an image: 512 records of 44 bytes and the end record

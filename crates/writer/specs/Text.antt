@@ -58,10 +58,9 @@ endRecord = recordBytes 1 0 []
 abbrev pub recordsOf : List ℕ → List (List ℕ)
 recordsOf image = tabulate dataRecords (recordIn image) ++ (endRecord ∷ [])
 
--- the text of an image
+-- the text of an image: 44 bytes for each data record, and 12 for the end record
 unfoldable pub textOf : List ℕ → List ℕ
 textOf image = flatMap recordText (recordsOf image)
 
--- how long it is: 44 bytes a record, and 12 for the end record
 abbrev pub textBytes : ℕ
 textBytes = 22540

@@ -2,7 +2,7 @@
 ghost use mathlib.Core.Path.{_≡_};
 ghost use Prim.Native.Nat.{_+_, _*_, _%_, _<_, _≤_};
 ghost use mathlib.Core.Bool.{true};
-ghost use lib.ListN.{length, getD};
+ghost use lib.ListN.{length};
 ghost use lib.Seq.{sets};
 ghost use Rattle.font.specs.Font.{isFont};
 ghost use Rattle.image.specs.Image.{imageOf};
@@ -11,17 +11,19 @@ ghost use Rattle.writer.specs.Text.{digitText, byteText, bytesText, reco
 ghost use Rattle.writer.specs.Writing.{answerOf, leftOf, said};
 ghost use Rattle.writer.specs.Steps.{frontText, backText, rowsIn, halfOf};
 
-// 512 records of 44 bytes, and the end record's 12.
+// 512 records, and the end record's 12 bytes.
 const TEXT_BYTES: usize = 22540;
 
 const RECORDS: usize = 512;
 
+// A record's text, and that of its front: colon, length, address and type.
 const RECORD_TEXT: usize = 44;
 
-// The data of a record.
+const FRONT_TEXT: usize = 9;
+
+// A record's data. A cell has two records in each half of the image.
 const RECORD_BYTES: usize = 16;
 
-// The records of the image's first half.
 const HALF_RECORDS: usize = 256;
 
 const FONT_CELLS: usize = 62;
@@ -31,6 +33,11 @@ const CELL_ROWS: usize = 18;
 const COLON: u8 = 58;
 
 const LF: u8 = 10;
+
+// The types of records.
+const DATA: u8 = 0;
+
+const END: u8 = 1;
 
 pub enum Written {
     Done,
@@ -65,8 +72,8 @@ fn put_text(font: &[u16], text: &mut [u8])
         n += 1;
     }
     let at = RECORD_TEXT * RECORDS;
-    put_front(text, at, 0, 0, 0, 1);
-    put_back(text, at + 9, 1);
+    put_front(text, at, 0, 0, 0, END);
+    put_back(text, at + FRONT_TEXT, END);
 }
 
 fn put_record(font: &[u16], n: usize, text: &mut [u8])
@@ -75,12 +82,13 @@ fn put_record(font: &[u16], n: usize, text: &mut [u8])
 {
     let at = RECORD_TEXT * n;
     let address = RECORD_BYTES * n;
+    let count = RECORD_BYTES as u8;
     let high = (address / 256) as u8;
     let low = (address % 256) as u8;
-    put_front(text, at, 16, high, low, 0);
-    let data = put_data(font, n, text, at + 9);
-    let sum = std::num::wrapping_add_u8(std::num::wrapping_add_u8(data, 16 + high), low);
-    put_back(text, at + 41, sum);
+    put_front(text, at, count, high, low, DATA);
+    let data = put_data(font, n, text, at + FRONT_TEXT);
+    let sum = std::num::wrapping_add_u8(std::num::wrapping_add_u8(data, count + high), low);
+    put_back(text, at + FRONT_TEXT + 2 * RECORD_BYTES, sum);
 }
 
 // A record up to its data.
@@ -136,9 +144,9 @@ fn rows_in(n: usize) -> usize
         return 0;
     }
     if n % 2 == 0 {
-        return 16;
+        return RECORD_BYTES;
     }
-    2
+    CELL_ROWS - RECORD_BYTES
 }
 
 // What record n holds of a row: its low 8 bits, or its high 4 below four set bits.

@@ -1,14 +1,12 @@
+-- `writer::put_back`. What wraps the sum back to 0 is the checksum; then LF.
+-- Assumes nothing.
 use Prim.Native.Nat.{ℕ, suc, _+_, _-_, _%_}
 use mathlib.Core.Path.{_≡_}
 use native.Mathlib.Omega.{arith}
-use Rattle.writer.specs.Steps.{backText}
 use borrow.Author.Needs.{needs}
+use Rattle.writer.specs.Steps.{backText}
 use Rattle.writer.proofs.put_back.Statement.{statement}
 use Rattle.writer.proofs.put_back.Tie as tie
-use Rattle.writer.proofs.put_back.Reads as reads
-use Rattle.writer.proofs.put_back.Lts as lts
-use Rattle.std.proofs.num.wrapping_sub_u8.Reads as wrapping-sub-u8-reads
-use Rattle.writer.proofs.put_byte.Reads as put-byte-reads
 
 two : (n : ℕ) → n + 2 ≡ suc (suc n)
 two n = omega arith
@@ -16,23 +14,18 @@ two n = omega arith
 wrapping-sub-u8-requires : tie.Need-wrapping-sub-u8-requires
 wrapping-sub-u8-requires c κs = search needs
 
--- src/lib.rt:103:5
 put-byte-requires : tie.Need-put-byte-requires
 put-byte-requires c κs = search needs
 
--- src/lib.rt:104:10
 add-text : tie.Need-add-text
 add-text c = search needs
 
--- src/lib.rt:104:5
 slice-write-text : tie.Need-slice-write-text
 slice-write-text c = search needs
 
--- src/lib.rt:99:1
 same-length : tie.Need-same-length
 same-length c = search needs
 
--- src/lib.rt:99:1
 returns : tie.Need-returns
 unfolding backText
 returns c =

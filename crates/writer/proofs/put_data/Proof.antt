@@ -1,12 +1,12 @@
 -- `writer::put_data`. Both loops keep that the bytes due so far are spelled, with their sum; the second goes on from where the first
 -- stopped.
 -- Assumes nothing.
-use Prim.Native.Nat.{ℕ, _+_, _-_, _*_, _/_, _%_, _<_, _≤_}
+use Prim.Native.Nat.{ℕ, _+_, _-_, _*_, _%_, _<_, _≤_}
 use mathlib.Core.Path.{_≡_, refl, sym, _∙_, ap}
 use mathlib.Core.List.{List}
 use native.Mathlib.Omega.{arith}
 use borrow.Author.Needs.{needs}
-use lib.ListN.{length, getD}
+use lib.ListN.{length}
 use lib.Seq.{length-sets, sets}
 use Rattle.image.specs.Image.{dueAt}
 use Rattle.image.specs.Lists.{tabulate}
@@ -18,12 +18,6 @@ use Rattle.writer.proofs.Spelling.{Spelled, spelled-none, spelled-more}
 use Rattle.writer.proofs.Rows.{bytes-due, rows-most, row-below, due-row, due-none}
 use Rattle.writer.proofs.put_data.Statement.{statement}
 use Rattle.writer.proofs.put_data.Tie as tie
-use Rattle.writer.proofs.put_data.Reads as reads
-use Rattle.writer.proofs.put_data.Lts as lts
-use Rattle.std.proofs.num.wrapping_add_u8.Reads as wrapping-add-u8-reads
-use Rattle.writer.proofs.half_of.Reads as half-of-reads
-use Rattle.writer.proofs.put_byte.Reads as put-byte-reads
-use Rattle.writer.proofs.rows_in.Reads as rows-in-reads
 
 abbrev Inv-loop : tie.InvT-loop
 Inv-loop font n text₀ at rows first sum₀ i₀ text sum i = (i ≤ rows) × (rows ≤ 16) × (rows ≡ rowsIn n) × Spelled (λ k. dueAt font (16 * n + k)) at text₀ i sum text
@@ -95,10 +89,13 @@ loop-again c =
     let s = c .before .before .before .before .before .before .before .before .before .before .before .before in
     let n = s .args .n in
     let font = s .args .font .now in
-    let h : l .i < rowsIn n = omega arith in
-    (omega arith, omega arith, l .inv .2,
-     spelled-more _ (s .args .at) _ (l .i) (l .sum) (l .text) _ _ _ (c .before .before .before .before .before .half-of .ensures ∙ due-row n (omega arith) font (l .i) h) (c .before .before .before .put-byte .ensures)
-     (c .wrapping-add-u8 .ensures) (l .inv .3))
+    let h : l .i < rowsIn n = omega arith in (
+      omega arith,
+      omega arith,
+      l .inv .2,
+      spelled-more _ (s .args .at) _ (l .i) (l .sum) (l .text) _ _ _ (c .before .before .before .before .before .half-of .ensures ∙ due-row n (omega arith) font (l .i) h) (c .before .before .before .put-byte .ensures)
+          (c .wrapping-add-u8 .ensures) (l .inv .3),
+    )
 
 loop2-holds : tie.Need-loop2-holds Inv-loop μ-loop Inv-loop2 μ-loop2
 loop2-holds c = (omega arith, omega arith, refl, λ t s. s)
@@ -125,11 +122,14 @@ loop2-again : tie.Need-loop2-again Inv-loop μ-loop Inv-loop2 μ-loop2
 loop2-again c =
     let l = c .before .before .before .before .before .before .loop2 in
     let s = c .before .before .before .before .before .before .before .before .before .before .before .before in
-    let put = c .before .before .before .put-byte2 .ensures in
-    (omega arith, omega arith, ap length put ∙ length-sets (l .text) (s .args .at + 2 * l .i) (byteText 255) ∙ l .inv .2,
-     λ t before.
-     spelled-more _ (s .args .at) t (l .i) (l .sum) (l .text) _ _ _ (due-none (s .args .n) (omega arith) (s .args .font .now) (l .i) (omega arith) (omega arith)) put
-     (c .wrapping-add-u82 .ensures) (l .inv .3 t before))
+    let put = c .before .before .before .put-byte2 .ensures in (
+      omega arith,
+      omega arith,
+      ap length put ∙ length-sets (l .text) (s .args .at + 2 * l .i) (byteText 255) ∙ l .inv .2,
+      λ t before.
+          spelled-more _ (s .args .at) t (l .i) (l .sum) (l .text) _ _ _ (due-none (s .args .n) (omega arith) (s .args .font .now) (l .i) (omega arith) (omega arith)) put
+          (c .wrapping-add-u82 .ensures) (l .inv .3 t before),
+    )
 
 same-length : tie.Need-same-length Inv-loop μ-loop Inv-loop2 μ-loop2
 same-length c = c .before .loop2 .inv .2 ∙ c .before .before .before .loop .inv .3 .size

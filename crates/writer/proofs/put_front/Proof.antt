@@ -1,59 +1,42 @@
-use Prim.Native.Nat.{ℕ, suc, _+_}
-use mathlib.Core.Path.{_≡_, refl, sym, _∙_, ap}
-use mathlib.Core.List.{flatMap}
+-- `writer::put_front`. The colon and four bytes in turn are the front.
+-- Assumes nothing.
 use native.Mathlib.Omega.{arith}
-use lib.ListN.{length-set}
-use lib.Seq.{sets}
-use Rattle.writer.specs.Steps.{frontText}
-use Rattle.writer.proofs.Spelling.{front-stored}
 use borrow.Author.Needs.{needs}
+use lib.ListN.{length-set}
+use Rattle.writer.proofs.Spelling.{front-stored}
 use Rattle.writer.proofs.put_front.Statement.{statement}
 use Rattle.writer.proofs.put_front.Tie as tie
-use Rattle.writer.proofs.put_front.Reads as reads
-use Rattle.writer.proofs.put_front.Lts as lts
-use Rattle.writer.proofs.put_byte.Reads as put-byte-reads
 
--- src/lib.rt:91:5
 slice-write-text : tie.Need-slice-write-text
 slice-write-text c = search needs
 
--- src/lib.rt:92:20
 add-put-byte : tie.Need-add-put-byte
 add-put-byte c = search needs
 
--- src/lib.rt:92:5
 put-byte-requires : tie.Need-put-byte-requires
 put-byte-requires c κs = simp length-set (omega arith)
 
--- src/lib.rt:93:20
 add-put-byte-2 : tie.Need-add-put-byte-2
 add-put-byte-2 c = search needs
 
--- src/lib.rt:93:5
 put-byte-requires-2 : tie.Need-put-byte-requires-2
 put-byte-requires-2 c κs = let a = c .before .before .before .before .before .before .args in omega (arith, length-set (a .text .now) (a .at) 58)
 
--- src/lib.rt:94:20
 add-put-byte-3 : tie.Need-add-put-byte-3
 add-put-byte-3 c = search needs
 
--- src/lib.rt:94:5
 put-byte-requires-3 : tie.Need-put-byte-requires-3
 put-byte-requires-3 c κs = let a = c .before .before .before .before .before .before .before .before .before .before .args in omega (arith, length-set (a .text .now) (a .at) 58)
 
--- src/lib.rt:95:20
 add-put-byte-4 : tie.Need-add-put-byte-4
 add-put-byte-4 c = search needs
 
--- src/lib.rt:95:5
 put-byte-requires-4 : tie.Need-put-byte-requires-4
 put-byte-requires-4 c κs = let a = c .before .before .before .before .before .before .before .before .before .before .before .before .before .before .args in omega (arith, length-set (a .text .now) (a .at) 58)
 
--- src/lib.rt:87:1
 same-length : tie.Need-same-length
 same-length c = let a = c .before .before .before .before .before .before .before .before .before .before .before .before .before .before .before .before .before .args in omega (arith, length-set (a .text .now) (a .at) 58)
 
--- src/lib.rt:87:1
 returns : tie.Need-returns
 returns c =
     rw

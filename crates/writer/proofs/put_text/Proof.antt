@@ -1,3 +1,5 @@
+-- `writer::put_text`. The loop keeps that the lines of the records so far stand at the front of the text; the end record's line follows.
+-- Assumes nothing.
 use Prim.Native.Nat.{_*_, _-_, _≤_}
 use mathlib.Core.Path.{_≡_, refl, _∙_, ap}
 use mathlib.Core.List.{flatMap}
@@ -13,11 +15,6 @@ use Rattle.writer.proofs.Lists.{sets-three, sets-more, flat-length}
 use Rattle.writer.proofs.Spelling.{front-length, line-length, text-parts}
 use Rattle.writer.proofs.put_text.Statement.{statement}
 use Rattle.writer.proofs.put_text.Tie as tie
-use Rattle.writer.proofs.put_text.Reads as reads
-use Rattle.writer.proofs.put_text.Lts as lts
-use Rattle.writer.proofs.put_back.Reads as put-back-reads
-use Rattle.writer.proofs.put_front.Reads as put-front-reads
-use Rattle.writer.proofs.put_record.Reads as put-record-reads
 
 abbrev Inv-loop : tie.InvT-loop
 Inv-loop font text₀ n₀ text n =
@@ -44,9 +41,11 @@ loop-again c =
     let l = c .before .before .before .before .before .loop in
     let s = c .before .before .before .before .before .before .before .before in
     let image = imageOf (s .args .font .now) in
-    let put = c .before .before .put-record .ensures in
-    (omega arith, ap length put ∙ length-sets (l .text) (44 * l .n) (recordText (recordIn image (l .n))) ∙ l .inv .1,
-     rw (put, l .inv .2) (sets-more recordText 44 (recordIn image) (line-length image) (s .args .text .now) 0 (l .n) _ (omega arith)))
+    let put = c .before .before .put-record .ensures in (
+      omega arith,
+      ap length put ∙ length-sets (l .text) (44 * l .n) (recordText (recordIn image (l .n))) ∙ l .inv .1,
+      rw (put, l .inv .2) (sets-more recordText 44 (recordIn image) (line-length image) (s .args .text .now) 0 (l .n) _ (omega arith)),
+    )
 
 mul-at : tie.Need-mul-at Inv-loop μ-loop
 mul-at c = search needs

@@ -1,3 +1,5 @@
+-- `writer::write`: each return by the tests that led to it.
+-- Assumes nothing.
 use mathlib.Core.Path.{sym, _∙_}
 use native.Mathlib.Omega.{arith}
 use borrow.Author.Needs.{needs}
@@ -8,21 +10,14 @@ use Rattle.writer.specs.Writing.{answerOf, leftOf}
 use Rattle.writer.proofs.Spelling.{text-stored}
 use Rattle.writer.proofs.write.Statement.{statement}
 use Rattle.writer.proofs.write.Tie as tie
-use Rattle.writer.proofs.write.Reads as reads
-use Rattle.writer.proofs.write.Lts as lts
-use Rattle.font.proofs.is_font.Reads as is-font-reads
-use Rattle.writer.proofs.put_text.Reads as put-text-reads
 
--- src/lib.rt:48:9
 is-font-requires : tie.Need-is-font-requires
 is-font-requires c κs = search needs
 
--- src/lib.rt:49:9
 returns : tie.Need-returns
 unfolding answerOf leftOf
 returns c = let e = sym (c .before .is-font .ensures) ∙ not-true _ (c .if1 .taken) in (simp e, simp e)
 
--- src/lib.rt:52:9
 returns-2 : tie.Need-returns-2
 unfolding answerOf leftOf
 returns-2 c =
@@ -30,15 +25,12 @@ returns-2 c =
     let g = lt-ltb _ _ (c .if2 .taken) in
     (simp (e, g), simp (e, g))
 
--- src/lib.rt:54:5
 put-text-requires : tie.Need-put-text-requires
 put-text-requires c κs = (sym (c .before .before .before .is-font .ensures) ∙ not-false _ (c .before .before .if1 .left), omega arith)
 
--- src/lib.rt:44:1
 same-length : tie.Need-same-length
 same-length c = search needs
 
--- src/lib.rt:44:1
 returns-3 : tie.Need-returns-3
 unfolding answerOf leftOf
 returns-3 c =
