@@ -16,6 +16,7 @@ use Rattle.dirgeflint.proofs.port_face.dirgeflint_port_write_address as
 use Rattle.dirgeflint.proofs.port_face.dirgeflint_port_write_attribute as port-write-attribute
 use Rattle.dirgeflint.proofs.port_face.dirgeflint_port_write_character as port-write-character
 use Rattle.dirgeflint.proofs.pulse_face.dirgeflint_pulse_level as pulse-level
+use Rattle.dirgeflint.proofs.writer_face.dirgeflint_hex_write as hex-write
 
 -- the struct that tells this
 abbrev telling : Said → Answer
@@ -58,3 +59,7 @@ dirgeflint-port-write-character-unique w κs a g g′ r r′ ws ws′ = both-say
 pub dirgeflint-paint-unique : Determines paint.ended (λ w. paint.clauses (w .𝓤) (w .H) (w .𝓖 .A) (w .𝓜 .mem) (w .𝓡 .run))
 dirgeflint-paint-unique w κs a g g′ r r′ ws ws′ =
     both-say w (λ p q. (one-answer r r′ (p .0 ∙ sym (q .0)), λ i. (tt, (tt, (tt, (tt, (tt, (tt, ((p .1 ∙ sym (q .1)) i, tt)))))))))
+
+-- the text that the host lent
+pub dirgeflint-hex-write-unique : Determines hex-write.ended (λ w. hex-write.clauses (w .𝓤) (w .H) (w .𝓖 .A) (w .𝓜 .mem) (w .𝓡 .run))
+dirgeflint-hex-write-unique w κs a g g′ r r′ ws ws′ = both-say w (λ p q. (one-answer r r′ (p .0 ∙ sym (q .0)), λ i. (tt, ((p .1 ∙ sym (q .1)) i, tt))))

@@ -4,6 +4,7 @@ mod dac_face;
 mod display_face;
 mod port_face;
 mod pulse_face;
+mod writer_face;
 
 // What a call that can refuse answers: number 0 if it was accepted, else document 01's number of the refusal, with its place; and the value
 // that an accepted call gives.

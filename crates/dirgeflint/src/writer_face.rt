@@ -1,0 +1,38 @@
+// The writer of a font's text.
+ghost use mathlib.Core.Path.{_≡_};
+ghost use lib.ListN.{length};
+ghost use Rattle.dirgeflint.specs.Face.{told};
+ghost use Rattle.writer.specs.Writing.{answerOf, leftOf, said};
+use crate::Answer;
+use writer::Written;
+
+// Writes the text of a font's image into the first 22,540 bytes lent: value 0, or number 4 or 6.
+#[no_mangle]
+pub extern "C" fn dirgeflint_hex_write(font: &[u16], text: &mut [u8]) -> Answer
+    ensures { λ r. ⌜ (told r ≡ answerOf (now (font .entry)) (length (now (text .entry)))) × (now (text .exit) ≡ leftOf (now (font .entry)) (now (text .entry))) ⌝ }
+{
+    let written = writer::write(font, text);
+    written_answer(written)
+}
+
+fn written_answer(written: Written) -> Answer
+    ensures { λ r. ⌜ told r ≡ said written ⌝ }
+{
+    match written {
+        Written::Done => Answer {
+            number: 0,
+            place: 0,
+            value: 0,
+        },
+        Written::NotAFont => Answer {
+            number: 4,
+            place: 0,
+            value: 0,
+        },
+        Written::NoRoom => Answer {
+            number: 6,
+            place: 0,
+            value: 0,
+        },
+    }
+}

@@ -1,0 +1,10 @@
+pub mod Lines
+pub mod Shape
+pub mod Steps
+pub mod Place
+pub mod Given
+pub mod Faults
+pub mod Passed
+pub mod Answers
+pub mod Outcomes
+pub mod Unique

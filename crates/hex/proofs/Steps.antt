@@ -1,0 +1,154 @@
+-- Laws of the reader's steps: the digit table, the end of a line, the running checksum, the scratch.
+-- Assumes nothing.
+use mathlib.Core.Path.{_≡_, refl, sym, _∙_, ap}
+use mathlib.Core.Bool.{Bool, true, false}
+use mathlib.Core.List.{List, [], _∷_}
+use Prim.Native.Nat.{ℕ, zero, suc, _+_, _-_, _*_, _%_, _<_, _≤_}
+use native.Mathlib.Nat.{mod-add-mod, add-zero}
+use native.Mathlib.Numerals.{add-one}
+use native.Mathlib.Decide.{ℕ-discrete, decLt}
+use native.Mathlib.Omega.{arith}
+use lib.Dec.{eqb, leb, ltb}
+use lib.ListN.{length, getD, set, take, drop, length-drop, drop-of-length-le, List·getD-eq-default, length-set}
+use lib.Seq.{drop-cons, getD-drop, getD-take, length-take-le, getD-set-same, getD-set-other}
+use borrow.Author.Tests.{lt-ltb, le-ltb, le-leb, lt-leb}
+use Rattle.laws.specs.Pick.{pick, both}
+use Rattle.image.specs.Lists.{tabulate}
+use Rattle.image.proofs.Lists.{getD-tabulate}
+use Rattle.hex.specs.Digits.{digit, byteAt}
+use Rattle.hex.specs.Lines.{atEnd, total}
+use Rattle.hex.specs.Records.{allDigits}
+use Rattle.hex.specs.Steps.{digitTable, bytesFrom, sumFrom, pastEnd, endLength, storedAt}
+use Rattle.hex.proofs.Shape.{digits-at, digits-all}
+
+pub table-digit : (digits : List ℕ) (c : ℕ) → digits ≡ digitTable → c < 256 → getD digits c 0 ≡ digit c
+table-digit digits c e h = ap (λ l. getD l c 0) e ∙ getD-tabulate 256 digit c 0 h
+
+-- the end of a line at a place of the text
+module _ (text : List ℕ) (place : ℕ) where
+  pub past-over : place ≡ length text → pastEnd text place ≡ place
+  unfolding pastEnd atEnd
+  past-over h = rw (drop-of-length-le text {i = place} (omega arith)) (add-zero place)
+
+  pub past-here : place < length text
+      → pastEnd text place
+          ≡ pick (pick (eqb (getD text place 0) 10) true (both (eqb (getD text place 0) 13) (eqb (getD text (place + 1) 0) 10)))
+          (place + pick (eqb (getD text place 0) 10) 1 2) 0
+  unfolding pastEnd atEnd
+  past-here h =
+      let next : getD (drop (suc place) text) 0 0 ≡ getD text (place + 1) 0 = getD-drop (suc place) text 0 0 ∙ ap (λ n. getD text n 0) (omega arith) in
+      rw (drop-cons text place 0 h, next)
+
+  pub past-some : atEnd (drop place text) ≡ true → pastEnd text place ≡ place + endLength (drop place text)
+  unfolding pastEnd
+  past-some e = rw e
+
+  pub past-ends : (pastEnd text place ≡ 0 → ⊥) → atEnd (drop place text) ≡ true
+  unfolding pastEnd
+  past-ends h = go (atEnd (drop place text)) h
+    where
+      go : (b : Bool) → (pick b (place + endLength (drop place text)) 0 ≡ 0 → ⊥) → b ≡ true
+      go true h = refl
+      go false h = absurd (h refl)
+
+-- one byte more
+pub total-more : (i : ℕ) (f : ℕ → ℕ) → total (tabulate (i + 1) f) ≡ total (tabulate i f) + f i
+unfolding total tabulate
+total-more i f = rw (add-one i) (go i f)
+  where
+    go : (i : ℕ) (f : ℕ → ℕ) → total (tabulate (suc i) f) ≡ total (tabulate i f) + f i
+    go zero f = omega arith
+    go (suc i) f = omega (arith, go i (λ k. f (suc k)))
+
+-- one turn of the running checksum
+pub sum-more : (i : ℕ) (f : ℕ → ℕ) (sum byte r : ℕ) → sum ≡ total (tabulate i f) % 256 → byte ≡ f i → r ≡ (sum + byte) % 256
+    → r ≡ total (tabulate (i + 1) f) % 256
+sum-more i f sum byte r e g h =
+    h ∙ ap (λ n. (n + byte) % 256) e ∙ ap (λ n. (total (tabulate i f) % 256 + n) % 256) g ∙ mod-add-mod (total (tabulate i f)) 256 (f i)
+    ∙ ap (λ n. n % 256) (sym (total-more i f))
+
+-- n bytes from a place on
+module _ (text : List ℕ) (place n : ℕ) (fits : place + 2 * n ≤ length text) where
+  front-length : length (take (2 * n) (drop place text)) ≡ 2 * n
+  front-length = length-take-le (2 * n) (drop place text) (omega (arith, length-drop place text))
+
+  front-at : (k : ℕ) → k < 2 * n → getD (take (2 * n) (drop place text)) k 0 ≡ getD text (place + k) 0
+  front-at k h = getD-take (2 * n) (drop place text) k 0 h ∙ getD-drop place text k 0
+
+  front-digits : ((k : ℕ) → k < 2 * n → digit (getD text (place + k) 0) < 16) → allDigits (take (2 * n) (drop place text)) ≡ true
+  front-digits h = digits-all _ (λ k g. let l : k < 2 * n = omega (arith, front-length) in rw (front-at k l) (h k l))
+
+  pub sum-good : ((k : ℕ) → k < 2 * n → digit (getD text (place + k) 0) < 16) → sumFrom text place n ≡ total (bytesFrom text place n) % 256
+  unfolding sumFrom
+  sum-good h = rw (front-digits h)
+
+  pub sum-bad : (k : ℕ) → k < 2 * n → 16 ≤ digit (getD text (place + k) 0) → sumFrom text place n ≡ 256
+  unfolding sumFrom
+  sum-bad k h g = go (allDigits (take (2 * n) (drop place text))) refl
+    where
+      go : (b : Bool) → allDigits (take (2 * n) (drop place text)) ≡ b → pick b (total (bytesFrom text place n) % 256) 256 ≡ 256
+      go true e = absurd (omega (arith, digits-at _ e k (omega (arith, front-length)), ap digit (front-at k h)))
+      go false e = refl
+
+  pub sum-digits : sumFrom text place n < 256 → (k : ℕ) → k < 2 * n → digit (getD text (place + k) 0) < 16
+  unfolding sumFrom
+  sum-digits s k h = go (allDigits (take (2 * n) (drop place text))) refl s
+    where
+      go : (b : Bool) → allDigits (take (2 * n) (drop place text)) ≡ b → pick b (total (bytesFrom text place n) % 256) 256 < 256
+          → digit (getD text (place + k) 0) < 16
+      go true e s = omega (arith, digits-at _ e k (omega (arith, front-length)), ap digit (front-at k h))
+      go false e s = absurd (omega arith)
+
+-- two digits more
+pub digits-more : (text : List ℕ) (place i : ℕ) → ((k : ℕ) → k < 2 * i → digit (getD text (place + k) 0) < 16)
+    → digit (getD text (place + 2 * i) 0) < 16 → digit (getD text (place + 2 * i + 1) 0) < 16
+    → (k : ℕ) → k < 2 * (i + 1) → digit (getD text (place + k) 0) < 16
+digits-more text place i before high low k h = go (decLt k (2 * i)) (ℕ-discrete k (2 * i))
+  where
+    go : Dec (k < 2 * i) → Dec (k ≡ 2 * i) → digit (getD text (place + k) 0) < 16
+    go (yes l) d = before k l
+    go (no l) (yes d) = rw d high
+    go (no l) (no d) = let e : place + k ≡ place + 2 * i + 1 = omega arith in rw e low
+
+-- the scratch with n bytes stored: they lie from the address on, and the other cells are as they were
+module _ (bytes : List ℕ) (address n : ℕ) (cells : List ℕ) (a : ℕ) where
+  pub stored-in : address ≤ a → a < address + n → storedAt bytes address n cells a ≡ getD bytes (4 + (a - address)) 0
+  unfolding storedAt
+  stored-in h g = simp (le-leb _ _ h, lt-ltb _ _ g)
+
+  pub stored-below : a < address → storedAt bytes address n cells a ≡ getD cells a 0
+  unfolding storedAt
+  stored-below h = simp (lt-leb _ _ h)
+
+  pub stored-past : address + n ≤ a → storedAt bytes address n cells a ≡ getD cells a 0
+  unfolding storedAt
+  stored-past h = let g : address ≤ a = omega arith in simp (le-leb _ _ g, le-ltb _ _ h)
+
+-- one byte more
+module _ (bytes : List ℕ) (address i : ℕ) (cells : List ℕ) where
+  pub stored-none : (a : ℕ) → getD cells a 0 ≡ storedAt bytes address 0 cells a
+  stored-none a = go (decLt a address)
+    where
+      go : Dec (a < address) → getD cells a 0 ≡ storedAt bytes address 0 cells a
+      go (yes h) = sym (stored-below bytes address 0 cells a h)
+      go (no h) = sym (stored-past bytes address 0 cells a (omega arith))
+
+  stored-other : (a : ℕ) → (a ≡ address + i → ⊥) → storedAt bytes address i cells a ≡ storedAt bytes address (i + 1) cells a
+  stored-other a other = go (decLt a address) (decLt a (address + i))
+    where
+      go : Dec (a < address) → Dec (a < address + i) → storedAt bytes address i cells a ≡ storedAt bytes address (i + 1) cells a
+      go (yes h) d = stored-below bytes address i cells a h ∙ sym (stored-below bytes address (i + 1) cells a h)
+      go (no h) (yes g) = stored-in bytes address i cells a (omega arith) g ∙ sym (stored-in bytes address (i + 1) cells a (omega arith) (omega arith))
+      go (no h) (no g) = stored-past bytes address i cells a (omega arith) ∙ sym (stored-past bytes address (i + 1) cells a (omega arith))
+
+  pub stored-more : (now : List ℕ) (v : ℕ) → address + i < length now → v ≡ getD bytes (4 + i) 0
+      → ((a : ℕ) → getD now a 0 ≡ storedAt bytes address i cells a)
+      → (a : ℕ) → getD (set now (address + i) v) a 0 ≡ storedAt bytes address (i + 1) cells a
+  stored-more now v h e g a = go (ℕ-discrete a (address + i))
+    where
+      go : Dec (a ≡ address + i) → getD (set now (address + i) v) a 0 ≡ storedAt bytes address (i + 1) cells a
+      go (yes d) =
+          let f : i ≡ a - address = omega arith in
+          ap (λ n. getD (set now (address + i) v) n 0) d ∙ getD-set-same now (address + i) v 0 h ∙ e ∙ ap (λ n. getD bytes (4 + n) 0) f
+          ∙ sym (stored-in bytes address (i + 1) cells a (omega arith) (omega arith))
+      go (no d) = getD-set-other now (address + i) a v 0 d ∙ g a ∙ stored-other a d

@@ -1,0 +1,282 @@
+use Rattle.hex.proofs.Passed.{blank-length}
+use Rattle.hex.proofs.Answers.{met-next, met-room, met-sum, met-long-end, met-far-end, met-more, met-done, met-all, met-type, met-past, met-twice, met-passed}
+use Rattle.hex.proofs.Faults.{is-end, end-length, other-type, long-end, far-end, fault-shape, fault-sum, fault-type, fault-end, fault-past, fault-twice, fault-none}
+use Rattle.hex.specs.Steps.{recordAt, nextAt}
+use Rattle.hex.specs.Reading.{verdict}
+use Rattle.hex.specs.Lines.{bodyOf}
+use Rattle.hex.specs.Records.{isShaped, recordOf, lengthOf, addressOf, typeOf, sumOf, isEnd, isGiven, freshIn, faultOf, records, byteIn}
+use Rattle.image.proofs.Lists.{first-most}
+use borrow.Author.Tests.{eq-eqb, eqb-true, eqb-false}
+use mathlib.Core.Bool.{Bool, true, false}
+use borrow.Author.Needs.{needs}
+use Rattle.hex.proofs.Passed.{Passed, passed-none, verdict-over, verdict-fault, verdict-more, verdict-done, passed-more, fresh-here, line-shaped, line-unshaped, whole-here, next-fits, is-last, not-last, front-at}
+use native.Mathlib.Omega.{arith}
+use lib.ListN.{length, getD, take}
+use mathlib.Core.Path.{_≡_, refl, sym, _∙_, ap}
+use Prim.Native.Nat.{_≤_, _<_, _-_, _+_, _*_}
+use Rattle.hex.proofs.collect.Statement.{statement}
+use Rattle.hex.proofs.collect.Tie as tie
+use Rattle.hex.proofs.collect.Reads as reads
+use Rattle.hex.proofs.collect.Lts as lts
+use Rattle.hex.proofs.parse.Reads as parse-reads
+use Rattle.hex.proofs.store.Reads as store-reads
+
+abbrev Inv-loop : tie.InvT-loop
+Inv-loop digits text bytes₀ cells₀ at₀ count₀ bytes cells at count = Passed text at count cells × (length bytes ≡ length bytes₀) × (length cells ≡ length cells₀)
+
+abbrev μ-loop : tie.MeasureT-loop
+μ-loop digits text bytes₀ cells₀ at₀ count₀ bytes cells at count = length text - at
+
+loop-holds : tie.Need-loop-holds Inv-loop μ-loop
+loop-holds c = let s = c .before .before .before .before in (rw (s .pre .3) (passed-none (s .args .text .now)), refl, refl)
+
+parse-requires : tie.Need-parse-requires Inv-loop μ-loop
+parse-requires c κs = let s = c .before .before .before .before .before .before .before in let at = c .before .before .loop in (s .pre .0, omega arith, s .pre .1, at .inv .1 ∙ s .pre .2)
+
+enum-known-sum : tie.Need-enum-known-sum Inv-loop μ-loop
+enum-known-sum c = search needs
+
+enum-told : tie.Need-enum-told Inv-loop μ-loop
+enum-told c = search needs
+
+cast-t17 : tie.Need-cast-t17 Inv-loop μ-loop
+cast-t17 c = search needs
+
+same-length : tie.Need-same-length Inv-loop μ-loop
+same-length c = search needs
+
+same-length-2 : tie.Need-same-length-2 Inv-loop μ-loop
+same-length-2 c = search needs
+
+returns : tie.Need-returns Inv-loop μ-loop
+returns c = let s = c .before .before .before .before .before .before .before .before .before .before .before .before in let at = c .before .before .before .before .before .before .before .loop in
+    (sym (verdict-fault (s .args .text .now) (at .at) (at .count) (at .cells) (at .inv .0) (omega arith) 7 (omega arith)
+    (fault-shape _ _ (line-unshaped (s .args .text .now) (at .at) (sym (c .enum-told .given .1) ∙ c .before .before .before .before .parse .ensures .0)))),
+     λ e. absurd (omega arith))
+
+cast-t18 : tie.Need-cast-t18 Inv-loop μ-loop
+cast-t18 c = search needs
+
+same-length-3 : tie.Need-same-length-3 Inv-loop μ-loop
+same-length-3 c = search needs
+
+same-length-4 : tie.Need-same-length-4 Inv-loop μ-loop
+same-length-4 c = search needs
+
+returns-2 : tie.Need-returns-2 Inv-loop μ-loop
+returns-2 c = let s = c .before .before .before .before .before .before .before .before .before .before .before .before .before .before .args in let at = c .before .before .before .before .before .before .before .before .before .loop in let text = s .text .now in
+    (met-sum text (at .at) (at .count) (at .cells) (at .inv .0) (c .before .before .before .before .before .before .before .before .loop-test .taken) _ _ _ (sym (c .before .before .sum .given .1) ∙ c .before .before .before .before .before .before .parse .ensures .0) (c .before .before .before .before .before .before .parse .ensures .1) (c .if1 .taken), λ e. absurd (omega arith))
+
+slice-read-n : tie.Need-slice-read-n Inv-loop μ-loop
+slice-read-n c = search needs
+
+cast-n : tie.Need-cast-n Inv-loop μ-loop
+cast-n c = omega (arith, c .slice-known4 .given 0)
+
+slice-read-address : tie.Need-slice-read-address Inv-loop μ-loop
+slice-read-address c = search needs
+
+cast-address : tie.Need-cast-address Inv-loop μ-loop
+cast-address c = omega (arith, c .slice-known5 .given 1)
+
+mul-address : tie.Need-mul-address Inv-loop μ-loop
+mul-address c = omega (arith, c .slice-known5 .given 1)
+
+slice-read-address-2 : tie.Need-slice-read-address-2 Inv-loop μ-loop
+slice-read-address-2 c = search needs
+
+cast-address-2 : tie.Need-cast-address-2 Inv-loop μ-loop
+cast-address-2 c = omega (arith, c .slice-known6 .given 2)
+
+add-address : tie.Need-add-address Inv-loop μ-loop
+add-address c = omega (arith, c .before .slice-known5 .given 1, c .slice-known6 .given 2)
+
+slice-read-kind : tie.Need-slice-read-kind Inv-loop μ-loop
+slice-read-kind c = search needs
+
+cast-t28 : tie.Need-cast-t28 Inv-loop μ-loop
+cast-t28 c = search needs
+
+same-length-5 : tie.Need-same-length-5 Inv-loop μ-loop
+same-length-5 c = search needs
+
+same-length-6 : tie.Need-same-length-6 Inv-loop μ-loop
+same-length-6 c = search needs
+
+returns-3 : tie.Need-returns-3 Inv-loop μ-loop
+returns-3 c = let s = c .before .before .before .before .before .before .before .before .before .before .before .before .before .before .before .before .before .before .before .before .args in let at = c .before .before .before .before .before .before .before .before .before .before .before .before .before .before .before .loop in let text = s .text .now in
+    (met-long-end text (at .at) (at .count) (at .cells) (at .inv .0) (c .before .before .before .before .before .before .before .before .before .before .before .before .before .before .loop-test .taken) _ _ _ (sym (c .before .before .before .before .before .before .before .before .sum .given .1) ∙ c .before .before .before .before .before .before .before .before .before .before .before .before .parse .ensures .0) (c .before .before .before .before .before .before .before .before .before .before .before .before .parse .ensures .1) (c .before .before .before .before .before .before .if1 .left) (c .before .if2 .taken) (c .if3 .taken), λ e. absurd (omega arith))
+
+cast-t29 : tie.Need-cast-t29 Inv-loop μ-loop
+cast-t29 c = search needs
+
+same-length-7 : tie.Need-same-length-7 Inv-loop μ-loop
+same-length-7 c = search needs
+
+same-length-8 : tie.Need-same-length-8 Inv-loop μ-loop
+same-length-8 c = search needs
+
+returns-4 : tie.Need-returns-4 Inv-loop μ-loop
+returns-4 c = let s = c .before .before .before .before .before .before .before .before .before .before .before .before .before .before .before .before .before .before .before .before .before .args in let at = c .before .before .before .before .before .before .before .before .before .before .before .before .before .before .before .before .loop in let text = s .text .now in
+    (met-far-end text (at .at) (at .count) (at .cells) (at .inv .0) (c .before .before .before .before .before .before .before .before .before .before .before .before .before .before .before .loop-test .taken) _ _ _ (sym (c .before .before .before .before .before .before .before .before .before .sum .given .1) ∙ c .before .before .before .before .before .before .before .before .before .before .before .before .before .parse .ensures .0) (c .before .before .before .before .before .before .before .before .before .before .before .before .before .parse .ensures .1) (c .before .before .before .before .before .before .before .if1 .left) (c .before .before .if2 .taken) (c .before .if3 .left) (c .if4 .taken), λ e. absurd (omega arith))
+
+cast-t31 : tie.Need-cast-t31 Inv-loop μ-loop
+cast-t31 c = search needs
+
+same-length-9 : tie.Need-same-length-9 Inv-loop μ-loop
+same-length-9 c = search needs
+
+same-length-10 : tie.Need-same-length-10 Inv-loop μ-loop
+same-length-10 c = search needs
+
+returns-5 : tie.Need-returns-5 Inv-loop μ-loop
+returns-5 c = let s = c .before .before .before .before .before .before .before .before .before .before .before .before .before .before .before .before .before .before .before .before .before .before .args in let at = c .before .before .before .before .before .before .before .before .before .before .before .before .before .before .before .before .before .loop in let text = s .text .now in
+    (met-more text (at .at) (at .count) (at .cells) (at .inv .0) (c .before .before .before .before .before .before .before .before .before .before .before .before .before .before .before .before .loop-test .taken) _ _ _ (sym (c .before .before .before .before .before .before .before .before .before .before .sum .given .1) ∙ c .before .before .before .before .before .before .before .before .before .before .before .before .before .before .parse .ensures .0) (c .before .before .before .before .before .before .before .before .before .before .before .before .before .before .parse .ensures .1) (c .before .before .before .before .before .before .before .before .if1 .left) (c .before .before .before .if2 .taken) (c .before .before .if3 .left) (c .before .if4 .left) (c .if5 .taken), λ e. absurd (omega arith))
+
+same-length-11 : tie.Need-same-length-11 Inv-loop μ-loop
+same-length-11 c = search needs
+
+same-length-12 : tie.Need-same-length-12 Inv-loop μ-loop
+same-length-12 c = search needs
+
+returns-6 : tie.Need-returns-6 Inv-loop μ-loop
+returns-6 c = let s = c .before .before .before .before .before .before .before .before .before .before .before .before .before .before .before .before .before .before .before .before .before .before .args in let at = c .before .before .before .before .before .before .before .before .before .before .before .before .before .before .before .before .before .loop in let text = s .text .now in
+    (met-done text (at .at) (at .count) (at .cells) (at .inv .0) (c .before .before .before .before .before .before .before .before .before .before .before .before .before .before .before .before .loop-test .taken) _ _ _ (sym (c .before .before .before .before .before .before .before .before .before .before .sum .given .1) ∙ c .before .before .before .before .before .before .before .before .before .before .before .before .before .before .parse .ensures .0) (c .before .before .before .before .before .before .before .before .before .before .before .before .before .before .parse .ensures .1) (c .before .before .before .before .before .before .before .before .if1 .left) (c .before .before .before .if2 .taken) (c .before .before .if3 .left) (c .before .if4 .left) (c .if5 .left), λ e. met-all text (at .at) (at .count) (at .cells) (at .inv .0) (c .before .before .before .before .before .before .before .before .before .before .before .before .before .before .before .before .loop-test .taken) _ _ _ (sym (c .before .before .before .before .before .before .before .before .before .before .sum .given .1) ∙ c .before .before .before .before .before .before .before .before .before .before .before .before .before .before .parse .ensures .0) (c .before .before .before .before .before .before .before .before .before .before .before .before .before .before .parse .ensures .1) (c .before .before .before .before .before .before .before .before .if1 .left) (c .before .before .before .if2 .taken) (c .before .before .if3 .left) (c .before .if4 .left) (c .if5 .left))
+
+cast-t32 : tie.Need-cast-t32 Inv-loop μ-loop
+cast-t32 c = search needs
+
+same-length-13 : tie.Need-same-length-13 Inv-loop μ-loop
+same-length-13 c = search needs
+
+same-length-14 : tie.Need-same-length-14 Inv-loop μ-loop
+same-length-14 c = search needs
+
+returns-7 : tie.Need-returns-7 Inv-loop μ-loop
+returns-7 c = let s = c .before .before .before .before .before .before .before .before .before .before .before .before .before .before .before .before .before .before .before .before .args in let at = c .before .before .before .before .before .before .before .before .before .before .before .before .before .before .before .loop in let text = s .text .now in
+    (met-type text (at .at) (at .count) (at .cells) (at .inv .0) (c .before .before .before .before .before .before .before .before .before .before .before .before .before .before .loop-test .taken) _ _ _ (sym (c .before .before .before .before .before .before .before .before .sum .given .1) ∙ c .before .before .before .before .before .before .before .before .before .before .before .before .parse .ensures .0) (c .before .before .before .before .before .before .before .before .before .before .before .before .parse .ensures .1) (c .before .before .before .before .before .before .if1 .left) (c .before .if2 .left) (c .if6 .taken), λ e. absurd (omega arith))
+
+add-if7 : tie.Need-add-if7 Inv-loop μ-loop
+add-if7 c = omega (arith, c .before .before .before .before .before .slice-known4 .given 0, c .before .before .before .before .slice-known5 .given 1, c .before .before .before .slice-known6 .given 2)
+
+cast-t33 : tie.Need-cast-t33 Inv-loop μ-loop
+cast-t33 c = search needs
+
+same-length-15 : tie.Need-same-length-15 Inv-loop μ-loop
+same-length-15 c = search needs
+
+same-length-16 : tie.Need-same-length-16 Inv-loop μ-loop
+same-length-16 c = search needs
+
+returns-8 : tie.Need-returns-8 Inv-loop μ-loop
+returns-8 c = let s = c .before .before .before .before .before .before .before .before .before .before .before .before .before .before .before .before .before .before .before .before .before .args in let at = c .before .before .before .before .before .before .before .before .before .before .before .before .before .before .before .before .loop in let text = s .text .now in
+    (met-past text (at .at) (at .count) (at .cells) (at .inv .0) (c .before .before .before .before .before .before .before .before .before .before .before .before .before .before .before .loop-test .taken) _ _ _ (sym (c .before .before .before .before .before .before .before .before .before .sum .given .1) ∙ c .before .before .before .before .before .before .before .before .before .before .before .before .before .parse .ensures .0) (c .before .before .before .before .before .before .before .before .before .before .before .before .before .parse .ensures .1) (c .before .before .before .before .before .before .before .if1 .left) (c .before .before .if2 .left) (c .before .if6 .left) (c .if7 .taken), λ e. absurd (omega arith))
+
+store-requires : tie.Need-store-requires Inv-loop μ-loop
+store-requires c κs = let s = c .before .before .before .before .before .before .before .before .before .before .before .before .before .before .before .before .before .before .before .before .before .before .before .args in let at = c .before .before .before .before .before .before .before .before .before .before .before .before .before .before .before .before .before .before .loop in let text = s .text .now in
+    (omega (arith, c .before .before .before .before .before .before .before .before .before .before .before .before .before .before .before .parse .kept .1 .1 .1 .0, c .before .before .before .before .before .before .before .before .slice-known4 .given 0), c .before .before .if7 .left, omega (arith, ap length (c .before .before .before .before .before .before .before .before .before .before .before .before .before .before .before .before .before .before .before .before .before .before .before .pre .3), blank-length))
+
+cast-count : tie.Need-cast-count Inv-loop μ-loop
+cast-count c = search needs
+
+add-count : tie.Need-add-count Inv-loop μ-loop
+add-count c = search needs
+
+loop-less : tie.Need-loop-less Inv-loop μ-loop
+loop-less c = let s = c .before .before .before .before .before .before .before .before .before .before .before .before .before .before .before .before .before .before .before .before .before .before .before .before .before .before .before .args in let at = c .before .before .before .before .before .before .before .before .before .before .before .before .before .before .before .before .before .before .before .before .before .before .loop in let text = s .text .now in
+    let further = met-next text (at .at) (at .count) (at .cells) (at .inv .0) (c .before .before .before .before .before .before .before .before .before .before .before .before .before .before .before .before .before .before .before .before .before .loop-test .taken) _ _ _ (sym (c .before .before .before .before .before .before .before .before .before .before .before .before .before .before .before .sum .given .1) ∙ c .before .before .before .before .before .before .before .before .before .before .before .before .before .before .before .before .before .before .before .parse .ensures .0) (c .before .before .before .before .before .before .before .before .before .before .before .before .before .before .before .before .before .before .before .parse .ensures .1) in omega (arith, further .1)
+
+loop-again : tie.Need-loop-again Inv-loop μ-loop
+loop-again c = let s = c .before .before .before .before .before .before .before .before .before .before .before .before .before .before .before .before .before .before .before .before .before .before .before .before .before .before .before .args in let at = c .before .before .before .before .before .before .before .before .before .before .before .before .before .before .before .before .before .before .before .before .before .before .loop in let text = s .text .now in
+    let kept = c .before .before .before .store .ensures in (rw (kept .1 (c .if8 .taken)) (met-passed text (at .at) (at .count) (at .cells) (at .inv .0) (c .before .before .before .before .before .before .before .before .before .before .before .before .before .before .before .before .before .before .before .before .before .loop-test .taken) _ _ _ (sym (c .before .before .before .before .before .before .before .before .before .before .before .before .before .before .before .sum .given .1) ∙ c .before .before .before .before .before .before .before .before .before .before .before .before .before .before .before .before .before .before .before .parse .ensures .0) (c .before .before .before .before .before .before .before .before .before .before .before .before .before .before .before .before .before .before .before .parse .ensures .1) (c .before .before .before .before .before .before .before .before .before .before .before .before .before .if1 .left) (c .before .before .before .before .before .before .before .before .if2 .left) (c .before .before .before .before .before .before .before .if6 .left) (c .before .before .before .before .before .before .if7 .left) (sym (c .if8 .taken) ∙ kept .0)), c .before .before .before .before .before .before .before .before .before .before .before .before .before .before .before .before .before .before .before .parse .kept .1 .1 .1 .0 ∙ at .inv .1, c .before .before .before .store .kept .1 .1 .1 .0 ∙ at .inv .2)
+
+cast-t40 : tie.Need-cast-t40 Inv-loop μ-loop
+cast-t40 c = search needs
+
+same-length-17 : tie.Need-same-length-17 Inv-loop μ-loop
+same-length-17 c = search needs
+
+same-length-18 : tie.Need-same-length-18 Inv-loop μ-loop
+same-length-18 c = search needs
+
+returns-9 : tie.Need-returns-9 Inv-loop μ-loop
+returns-9 c = let s = c .before .before .before .before .before .before .before .before .before .before .before .before .before .before .before .before .before .before .before .before .before .before .before .before .before .before .before .args in let at = c .before .before .before .before .before .before .before .before .before .before .before .before .before .before .before .before .before .before .before .before .before .before .loop in let text = s .text .now in
+    (met-twice text (at .at) (at .count) (at .cells) (at .inv .0) (c .before .before .before .before .before .before .before .before .before .before .before .before .before .before .before .before .before .before .before .before .before .loop-test .taken) _ _ _ (sym (c .before .before .before .before .before .before .before .before .before .before .before .before .before .before .before .sum .given .1) ∙ c .before .before .before .before .before .before .before .before .before .before .before .before .before .before .before .before .before .before .before .parse .ensures .0) (c .before .before .before .before .before .before .before .before .before .before .before .before .before .before .before .before .before .before .before .parse .ensures .1) (c .before .before .before .before .before .before .before .before .before .before .before .before .before .if1 .left) (c .before .before .before .before .before .before .before .before .if2 .left) (c .before .before .before .before .before .before .before .if6 .left) (c .before .before .before .before .before .before .if7 .left) (sym (c .if8 .left) ∙ c .before .before .before .store .ensures .0), λ e. absurd (omega arith))
+
+cast-t41 : tie.Need-cast-t41 Inv-loop μ-loop
+cast-t41 c = search needs
+
+same-length-19 : tie.Need-same-length-19 Inv-loop μ-loop
+same-length-19 c = search needs
+
+same-length-20 : tie.Need-same-length-20 Inv-loop μ-loop
+same-length-20 c = search needs
+
+returns-10 : tie.Need-returns-10 Inv-loop μ-loop
+returns-10 c = let s = c .before .before .before .before .before .before in let at = c .before .loop in
+    (sym (verdict-over (s .args .text .now) (at .at) (at .count) (at .cells) (at .inv .0) (omega arith)), λ e. absurd (omega arith))
+
+pub collect-spec : {M : Type 1} → statement M
+collect-spec =
+    tie.close
+    (tie.spec
+    Inv-loop
+    μ-loop
+    loop-holds
+    parse-requires
+    enum-known-sum
+    enum-told
+    cast-t17
+    same-length
+    same-length-2
+    returns
+    cast-t18
+    same-length-3
+    same-length-4
+    returns-2
+    slice-read-n
+    cast-n
+    slice-read-address
+    cast-address
+    mul-address
+    slice-read-address-2
+    cast-address-2
+    add-address
+    slice-read-kind
+    cast-t28
+    same-length-5
+    same-length-6
+    returns-3
+    cast-t29
+    same-length-7
+    same-length-8
+    returns-4
+    cast-t31
+    same-length-9
+    same-length-10
+    returns-5
+    same-length-11
+    same-length-12
+    returns-6
+    cast-t32
+    same-length-13
+    same-length-14
+    returns-7
+    add-if7
+    cast-t33
+    same-length-15
+    same-length-16
+    returns-8
+    store-requires
+    cast-count
+    add-count
+    loop-less
+    loop-again
+    cast-t40
+    same-length-17
+    same-length-18
+    returns-9
+    cast-t41
+    same-length-19
+    same-length-20
+    returns-10)

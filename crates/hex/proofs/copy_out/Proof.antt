@@ -1,0 +1,66 @@
+use borrow.Author.Needs.{needs}
+use Rattle.hex.specs.Steps.{byteOf}
+use Rattle.image.proofs.Lists.{Filled, filled-none, filled-more, filled-all}
+use native.Mathlib.Omega.{arith}
+use lib.ListN.{getD}
+use mathlib.Core.Path.{_∙_}
+use Prim.Native.Nat.{_≤_, _-_}
+use Rattle.hex.proofs.copy_out.Statement.{statement}
+use Rattle.hex.proofs.copy_out.Tie as tie
+use Rattle.hex.proofs.copy_out.Reads as reads
+use Rattle.hex.proofs.copy_out.Lts as lts
+use Rattle.hex.proofs.byte_of.Reads as byte-of-reads
+
+abbrev Inv-loop : tie.InvT-loop
+Inv-loop cells image₀ i₀ image i = (i ≤ 8192) × Filled (λ k. byteOf (getD cells k 0)) i image image₀
+
+abbrev μ-loop : tie.MeasureT-loop
+μ-loop cells image₀ i₀ image i = 8192 - i
+
+loop-holds : tie.Need-loop-holds Inv-loop μ-loop
+loop-holds c = (omega arith, filled-none _ _)
+
+mul-byte-of : tie.Need-mul-byte-of Inv-loop μ-loop
+mul-byte-of c = search needs
+
+shared-slice-read-byte-of : tie.Need-shared-slice-read-byte-of Inv-loop μ-loop
+shared-slice-read-byte-of c = search needs
+
+byte-of-requires : tie.Need-byte-of-requires Inv-loop μ-loop
+byte-of-requires c κs = search needs
+
+slice-write-image : tie.Need-slice-write-image Inv-loop μ-loop
+slice-write-image c = omega (arith, c .before .before .before .loop .inv .1 .size)
+
+add-i : tie.Need-add-i Inv-loop μ-loop
+add-i c = search needs
+
+loop-less : tie.Need-loop-less Inv-loop μ-loop
+loop-less c = search needs
+
+loop-again : tie.Need-loop-again Inv-loop μ-loop
+loop-again c = let at = c .before .before .before in
+    (omega arith, filled-more _ (at .loop .i) (at .loop .image) _ _ (omega arith) (c .byte-of .ensures) (at .loop .inv .1))
+
+same-length : tie.Need-same-length Inv-loop μ-loop
+same-length c = c .before .loop .inv .1 .size
+
+returns : tie.Need-returns Inv-loop μ-loop
+returns c = let at = c .before in filled-all _ 8192 (at .loop .i) (at .loop .image) _ (omega arith) (omega arith) (at .loop .inv .1)
+
+pub copy-out-spec : {M : Type 1} → statement M
+copy-out-spec =
+    tie.close
+    (tie.spec
+    Inv-loop
+    μ-loop
+    loop-holds
+    mul-byte-of
+    shared-slice-read-byte-of
+    byte-of-requires
+    slice-write-image
+    add-i
+    loop-less
+    loop-again
+    same-length
+    returns)

@@ -1,0 +1,80 @@
+use Rattle.hex.proofs.Outcomes.{answers, leaves, keeps, not-done}
+use Rattle.hex.specs.Steps.{blank}
+use Rattle.hex.specs.Reading.{answerOf, leftOf, said, verdict}
+use native.Mathlib.Omega.{arith}
+use borrow.Author.Tests.{lt-ltb, le-ltb, eq-eqb, ne-eqb}
+use lib.Dec.{eqb}
+use lib.ListN.{length, getD, drop, replicate}
+use mathlib.Core.List.{_++_}
+use mathlib.Core.Path.{_≡_, refl, sym, _∙_, ap}
+use borrow.Author.Needs.{needs}
+use Rattle.hex.proofs.read.Statement.{statement}
+use Rattle.hex.proofs.read.Tie as tie
+use Rattle.hex.proofs.read.Reads as reads
+use Rattle.hex.proofs.read.Lts as lts
+use Rattle.hex.proofs.collect.Reads as collect-reads
+use Rattle.hex.proofs.copy_out.Reads as copy-out-reads
+
+returns : tie.Need-returns
+unfolding answerOf leftOf
+returns c = let a = c .before .before .before .args in let e = lt-ltb (length (a .image .now)) 8192 (c .if1 .taken) in (simp e, simp e)
+
+returns-2 : tie.Need-returns-2
+unfolding answerOf leftOf
+returns-2 c = let a = c .before .before .before .before .args in
+    let e = le-ltb (length (a .image .now)) 8192 (c .before .if1 .left) in let f = lt-ltb 65535 (length (a .text .now)) (c .if2 .taken) in
+    (simp (e, f), simp (e, f))
+
+slice-aggregate-collect : tie.Need-slice-aggregate-collect
+slice-aggregate-collect c = search needs
+
+slice-aggregate-collect-2 : tie.Need-slice-aggregate-collect-2
+slice-aggregate-collect-2 c = search needs
+
+slice-aggregate-collect-3 : tie.Need-slice-aggregate-collect-3
+slice-aggregate-collect-3 c = search needs
+
+collect-requires : tie.Need-collect-requires
+unfolding blank Rattle.image.specs.Lists.tabulate Rattle.hex.specs.Digits.digit
+collect-requires c κs = (refl, omega arith, refl, refl)
+
+enum-told : tie.Need-enum-told
+enum-told c = search needs
+
+slice-aggregate-copy-out : tie.Need-slice-aggregate-copy-out
+slice-aggregate-copy-out c = search needs
+
+copy-out-requires : tie.Need-copy-out-requires
+copy-out-requires c κs = search needs
+
+same-length : tie.Need-same-length
+same-length c = search needs
+
+returns-3 : tie.Need-returns-3
+returns-3 c = let a = c .before .before .before .before .before .before .before .before .before .before .before .before .before .before .before .before .before .args in let called = c .before .before .before .before .before .before .before .before .before .collect in
+    let told = c .before .before .before .before .before .enum-told .given .1 in
+    (called .ensures .0 ∙ answers (a .text .now) (a .image .now) (c .before .before .before .before .before .before .before .before .before .before .before .before .before .before .if1 .left) (c .before .before .before .before .before .before .before .before .before .before .before .before .before .if2 .left),
+     c .before .before .copy-out .ensures
+     ∙ leaves (a .text .now) (a .image .now) (c .before .before .before .before .before .before .before .before .before .before .before .before .before .before .if1 .left) (c .before .before .before .before .before .before .before .before .before .before .before .before .before .if2 .left) (called .result) (called .ensures .0) (ap (λ x. said x .number) told) _ (called .ensures .1 (ap (λ x. said x .number) told)))
+
+returns-4 : tie.Need-returns-4
+returns-4 c = let a = c .before .before .before .before .before .before .before .before .before .before .before .args in let called = c .before .before .before .collect in
+    (called .ensures .0 ∙ answers (a .text .now) (a .image .now) (c .before .before .before .before .before .before .before .before .if1 .left) (c .before .before .before .before .before .before .before .if2 .left),
+     keeps (a .text .now) (a .image .now) (c .before .before .before .before .before .before .before .before .if1 .left) (c .before .before .before .before .before .before .before .if2 .left) (called .result) (called .ensures .0) (not-done (called .result) (c .match .keys2)))
+
+pub read-spec : {M : Type 1} → statement M
+read-spec =
+    tie.close
+    (tie.spec
+    returns
+    returns-2
+    slice-aggregate-collect
+    slice-aggregate-collect-2
+    slice-aggregate-collect-3
+    collect-requires
+    enum-told
+    slice-aggregate-copy-out
+    copy-out-requires
+    same-length
+    returns-3
+    returns-4)

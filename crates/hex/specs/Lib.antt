@@ -1,0 +1,5 @@
+pub mod Digits
+pub mod Lines
+pub mod Records
+pub mod Reading
+pub mod Steps

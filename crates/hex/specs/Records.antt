@@ -1,0 +1,92 @@
+-- Records: document 01, 'The character image', second paragraph, and numbers 7 to 11 of its table.
+-- A record is the list of its bytes: length, address (high byte first), type, data, checksum. A line that has not the record's shape
+-- gives the empty list.
+-- Assumes nothing.
+use Prim.Native.Nat.{ℕ, _+_, _-_, _*_, _%_}
+use mathlib.Core.Bool.{Bool, true, false, not}
+use mathlib.Core.List.{List, [], _∷_, map}
+use lib.Dec.{eqb, leb, ltb}
+use lib.ListN.{length, getD, drop}
+use Rattle.laws.specs.Pick.{pick, both}
+use Rattle.image.specs.Lists.{tabulate, firstOf}
+use Rattle.image.specs.Image.{imageBytes}
+use Rattle.hex.specs.Digits.{digit, byteAt}
+use Rattle.hex.specs.Lines.{lines, bodyOf, total}
+
+abbrev pub colon : ℕ
+colon = 58
+
+-- the bytes of a record beside its data: length, address, type, checksum
+abbrev pub frame : ℕ
+frame = 5
+
+unfoldable pub allDigits : List ℕ → Bool
+allDigits [] = true
+allDigits (c ∷ rest) = both (ltb (digit c) 16) (allDigits rest)
+
+-- the record's shape, of a line without its end: a colon, then digits only, two for each byte, as many bytes as the first of them asks for
+unfoldable pub isShaped : List ℕ → Bool
+isShaped body = both (eqb (getD body 0 0) colon) (both (allDigits (drop 1 body)) (eqb (length body) (1 + 2 * (frame + byteAt body 1))))
+
+-- the record of a line without its end
+unfoldable pub spelledBy : List ℕ → List ℕ
+spelledBy body = pick (isShaped body) (tabulate (frame + byteAt body 1) (λ i. byteAt body (1 + 2 * i))) []
+
+abbrev pub recordOf : List ℕ → List ℕ
+recordOf line = spelledBy (bodyOf line)
+
+-- the records of a text, one for each line
+abbrev pub records : List ℕ → List (List ℕ)
+records text = map recordOf (lines text)
+
+-- the parts of a record
+abbrev pub lengthOf : List ℕ → ℕ
+lengthOf r = getD r 0 0
+
+abbrev pub addressOf : List ℕ → ℕ
+addressOf r = 256 * getD r 1 0 + getD r 2 0
+
+abbrev pub typeOf : List ℕ → ℕ
+typeOf r = getD r 3 0
+
+-- the eight-bit sum of all its bytes, carries dropped
+abbrev pub sumOf : List ℕ → ℕ
+sumOf r = total r % 256
+
+-- the end record: type 01, no data, address 0
+unfoldable pub isEnd : List ℕ → Bool
+isEnd r = both (eqb (typeOf r) 1) (both (eqb (lengthOf r) 0) (eqb (addressOf r) 0))
+
+-- whether a record gives the byte at an address, and that byte
+unfoldable pub gives : List ℕ → ℕ → Bool
+gives r address = both (leb (addressOf r) address) (ltb address (addressOf r + lengthOf r))
+
+abbrev pub dataAt : List ℕ → ℕ → ℕ
+dataAt r address = getD r (4 + (address - addressOf r)) 0
+
+-- the byte that records give at an address, or `none` where no record gives one
+unfoldable pub byteIn : ℕ → List (List ℕ) → ℕ → ℕ
+byteIn none [] address = none
+byteIn none (r ∷ rest) address = pick (gives r address) (dataAt r address) (byteIn none rest address)
+
+-- whether one of them gives it
+unfoldable pub isGiven : List (List ℕ) → ℕ → Bool
+isGiven [] address = false
+isGiven (r ∷ rest) address = pick (gives r address) true (isGiven rest address)
+
+-- how many of its bytes stand before the first that an earlier record gives already
+abbrev pub freshIn : List (List ℕ) → List ℕ → ℕ
+freshIn earlier r = firstOf (lengthOf r) (λ i. isGiven earlier (addressOf r + i))
+
+-- how many bytes records give
+abbrev pub countOf : List (List ℕ) → ℕ
+countOf rs = total (map lengthOf rs)
+
+-- the number of a record's fault after earlier records, by the order of the table, and 0 where it has none
+unfoldable pub faultOf : List (List ℕ) → List ℕ → ℕ
+faultOf earlier r =
+    pick (eqb (length r) 0) 7
+    (pick (not (eqb (sumOf r) 0)) 8
+    (pick (not (pick (isEnd r) true (eqb (typeOf r) 0))) 9
+    (pick (ltb imageBytes (addressOf r + lengthOf r)) 10
+    (pick (ltb (freshIn earlier r) (lengthOf r)) 11 0))))

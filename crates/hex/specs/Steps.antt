@@ -1,0 +1,59 @@
+-- What the reader's own steps give, in the words of the account: the line that starts at a place of a text, and the scratch in which the
+-- records are collected, 256 standing for a byte that no record gave. Only contracts of private functions cite these.
+-- Assumes nothing.
+use Prim.Native.Nat.{ℕ, _+_, _-_, _*_, _%_}
+use mathlib.Core.Bool.{Bool}
+use mathlib.Core.List.{List, [], _∷_}
+use lib.Dec.{eqb, leb, ltb}
+use lib.ListN.{length, getD, take, drop, replicate}
+use Rattle.laws.specs.Pick.{pick, both}
+use Rattle.image.specs.Lists.{tabulate}
+use Rattle.hex.specs.Digits.{digit, byteAt}
+use Rattle.hex.specs.Lines.{lines, bodyOf, atEnd, LF, total}
+use Rattle.hex.specs.Records.{isShaped, spelledBy, allDigits, sumOf}
+use Rattle.hex.specs.declared.Line.{Line}
+use Rattle.hex.specs.declared.Line.the-variants.{Shaped, Unshaped}
+
+-- the value of each byte as a digit
+abbrev pub digitTable : List ℕ
+digitTable = tabulate 256 digit
+
+-- n bytes from a place on, two digits each
+abbrev pub bytesFrom : List ℕ → ℕ → ℕ → List ℕ
+bytesFrom text place n = tabulate n (λ i. byteAt text (place + 2 * i))
+
+-- their eight-bit sum, or 256 where they are not all digits
+unfoldable pub sumFrom : List ℕ → ℕ → ℕ → ℕ
+sumFrom text place n = pick (allDigits (take (2 * n) (drop place text))) (total (bytesFrom text place n) % 256) 256
+
+-- how long the line's end at the front is
+abbrev pub endLength : List ℕ → ℕ
+endLength [] = 0
+endLength (c ∷ rest) = pick (eqb c LF) 1 2
+
+-- where the next line starts if a line's end stands at a place, else 0
+unfoldable pub pastEnd : List ℕ → ℕ → ℕ
+pastEnd text place = pick (atEnd (drop place text)) (place + endLength (drop place text)) 0
+
+-- the record of the line that starts at a place
+unfoldable pub recordAt : List ℕ → ℕ → List ℕ
+recordAt text place = spelledBy (bodyOf (drop place text))
+
+-- where the line after it starts
+unfoldable pub nextAt : List ℕ → ℕ → ℕ
+nextAt text place = place + length (getD (lines (drop place text)) 0 [])
+
+unfoldable pub lineAt : List ℕ → ℕ → Line
+lineAt text place = pick (isShaped (bodyOf (drop place text))) (Shaped (sumOf (recordAt text place)) (nextAt text place)) Unshaped
+
+-- the scratch before any record
+unfoldable pub blank : List ℕ
+blank = replicate 8192 256
+
+-- the scratch with n bytes, data after a record's first four, stored at an address
+unfoldable pub storedAt : List ℕ → ℕ → ℕ → List ℕ → ℕ → ℕ
+storedAt bytes address n cells a = pick (both (leb address a) (ltb a (address + n))) (getD bytes (4 + (a - address)) 0) (getD cells a 0)
+
+-- the byte of a scratch cell
+abbrev pub byteOf : ℕ → ℕ
+byteOf x = pick (ltb x 256) x 255

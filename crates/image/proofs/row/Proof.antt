@@ -1,0 +1,55 @@
+use Prim.Native.Nat.{_+_, _*_, _/_, _%_}
+use Rattle.image.specs.Image.{rowIn}
+use mathlib.Core.Path.{refl}
+use native.Mathlib.Omega.{arith}
+use borrow.Author.Needs.{needs}
+use Rattle.image.proofs.row.Statement.{statement}
+use Rattle.image.proofs.row.Tie as tie
+use Rattle.image.proofs.row.Reads as reads
+use Rattle.image.proofs.row.Lts as lts
+
+mul-low : tie.Need-mul-low
+mul-low c = search needs
+
+add-low : tie.Need-add-low
+add-low c = search needs
+
+shared-slice-read-result : tie.Need-shared-slice-read-result
+shared-slice-read-result c = search needs
+
+cast-result : tie.Need-cast-result
+cast-result c = let i = c .before .args .i in omega (arith, c .shared-slice-known .given (32 * (i / 18) + i % 18))
+
+add-result : tie.Need-add-result
+add-result c = search needs
+
+shared-slice-read-result-2 : tie.Need-shared-slice-read-result-2
+shared-slice-read-result-2 c = search needs
+
+cast-result-2 : tie.Need-cast-result-2
+cast-result-2 c = search needs
+
+mul-result : tie.Need-mul-result
+mul-result c = search needs
+
+add-result-2 : tie.Need-add-result-2
+add-result-2 c = let i = c .before .before .args .i in omega (arith, c .before .shared-slice-known .given (32 * (i / 18) + i % 18))
+
+returns : tie.Need-returns
+unfolding rowIn
+returns c = refl
+
+pub row-spec : {M : Type 1} → statement M
+row-spec =
+    tie.close
+    (tie.spec
+    mul-low
+    add-low
+    shared-slice-read-result
+    cast-result
+    add-result
+    shared-slice-read-result-2
+    cast-result-2
+    mul-result
+    add-result-2
+    returns)

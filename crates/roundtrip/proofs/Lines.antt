@@ -1,0 +1,133 @@
+-- A record's line, read back: the two digits of a byte spell the byte, the line ends at its LF and nowhere before, and its body spells the
+-- record. So the records of a text that is put together from lines are the records from which the lines were made.
+-- Assumes nothing.
+use mathlib.Core.Path.{_≡_, refl, sym, _∙_, ap}
+use mathlib.Core.Bool.{Bool, true, false}
+use mathlib.Core.List.{List, [], _∷_, _++_, flatMap, append-assoc, append-nil}
+use Prim.Native.Nat.{ℕ, zero, suc, _+_, _-_, _*_, _/_, _%_, _<_, _≤_}
+use native.Mathlib.Nat.{le-of-suc-le-suc, not-suc-le-zero}
+use native.Mathlib.Omega.{arith}
+use lib.Dec.{eqb, ltb, eqb→eq}
+use lib.ListN.{length, getD}
+use borrow.Author.Tests.{lt-ltb, ne-eqb, eq-eqb}
+use Rattle.laws.specs.Pick.{pick}
+use Rattle.laws.proofs.Tests.{upto-at}
+use Rattle.image.specs.Lists.{tabulate}
+use Rattle.image.proofs.Lists.{is-tabulate}
+use Rattle.hex.specs.Digits.{digit, byteAt}
+use Rattle.hex.specs.Lines.{lines, atEnd, bodyOf, LF}
+use Rattle.hex.specs.Records.{colon, allDigits, isShaped, spelledBy, recordOf, records, lengthOf}
+use Rattle.writer.specs.Text.{digitText, bytesText, recordText}
+use Rattle.writer.proofs.Spelling.{bytes-length}
+
+-- a digit's character spells the digit, and is none of a line's end
+digit-back : (v : ℕ) → v < 16 → digit (digitText v) ≡ v
+unfolding digit
+digit-back v h = eqb→eq _ _ (upto-at 16 (λ v. eqb (digit (digitText v)) v) tt v h)
+
+digit-high : (v : ℕ) → 48 ≤ digitText v
+digit-high v = go (ltb v 10)
+  where
+    go : (b : Bool) → 48 ≤ pick b (48 + v) (55 + v)
+    go true = omega arith
+    go false = omega arith
+
+-- the text of bytes, up to the LF after it
+lines-bytes : (bytes rest : List ℕ) → lines (bytesText bytes ++ (LF ∷ rest)) ≡ (bytesText bytes ++ (LF ∷ [])) ∷ lines rest
+unfolding lines flatMap
+lines-bytes [] rest = refl
+lines-bytes (b ∷ bytes) rest =
+    rw (
+      ne-eqb (digitText (b / 16)) 10 (omega (arith, digit-high (b / 16))),
+      ne-eqb (digitText (b % 16)) 10 (omega (arith, digit-high (b % 16))),
+      lines-bytes bytes rest,
+    )
+
+body-bytes : (bytes : List ℕ) → bodyOf (bytesText bytes ++ (LF ∷ [])) ≡ bytesText bytes
+unfolding bodyOf atEnd flatMap
+body-bytes [] = refl
+body-bytes (b ∷ bytes) =
+    let high = digit-high (b / 16) in
+    let low = digit-high (b % 16) in
+    simp (
+      ne-eqb (digitText (b / 16)) 10 (omega arith),
+      ne-eqb (digitText (b / 16)) 13 (omega arith),
+      ne-eqb (digitText (b % 16)) 10 (omega arith),
+      ne-eqb (digitText (b % 16)) 13 (omega arith),
+      body-bytes bytes,
+    )
+
+-- all of it bytes
+abbrev pub Small : List ℕ → Type 0
+Small l = (i : ℕ) → getD l i 0 < 256
+
+-- its digits spell the bytes
+digits-bytes : (bytes : List ℕ) → Small bytes → allDigits (bytesText bytes) ≡ true
+unfolding allDigits flatMap
+digits-bytes [] small = refl
+digits-bytes (b ∷ bytes) small =
+    let here = small 0 in
+    let high = digit-back (b / 16) (omega arith) in
+    let low = digit-back (b % 16) (omega arith) in
+    simp (lt-ltb (digit (digitText (b / 16))) 16 (omega arith), lt-ltb (digit (digitText (b % 16))) 16 (omega arith))
+    (digits-bytes bytes (λ i. small (suc i)))
+
+-- byte i of them
+byte-back : (bytes : List ℕ) → Small bytes → (i : ℕ) → i < length bytes → byteAt (bytesText bytes) (2 * i) ≡ getD bytes i 0
+unfolding flatMap
+byte-back [] small i h = absurd (not-suc-le-zero h)
+byte-back (b ∷ bytes) small zero h =
+    let here = small 0 in
+    let high = digit-back (b / 16) (omega arith) in
+    let low = digit-back (b % 16) (omega arith) in
+    omega arith
+byte-back (b ∷ bytes) small (suc i) h =
+    let two : 2 * suc i ≡ suc (suc (2 * i)) = omega arith in
+    let three : suc (suc (2 * i)) + 1 ≡ suc (suc (2 * i + 1)) = omega arith in
+    rw (two, three) (byte-back bytes (λ k. small (suc k)) i (le-of-suc-le-suc h))
+
+-- a record: bytes, as many as the first asks for
+pub record Good (r : List ℕ) : Type 0 where
+  pub small : Small r
+  pub size : length r ≡ 5 + lengthOf r
+
+module _ (r : List ℕ) (good : Good r) where
+  colon-byte : (i : ℕ) → i < length r → byteAt (colon ∷ bytesText r) (1 + 2 * i) ≡ getD r i 0
+  colon-byte i h =
+      let one : 1 + 2 * i ≡ suc (2 * i) = omega arith in
+      let two : suc (2 * i) + 1 ≡ suc (2 * i + 1) = omega arith in
+      rw (one, two) (byte-back r (good .small) i h)
+
+  colon-shaped : isShaped (colon ∷ bytesText r) ≡ true
+  unfolding isShaped
+  colon-shaped =
+      let asked = colon-byte 0 (omega (arith, good .size)) in
+      simp (digits-bytes r (good .small), eq-eqb (suc (length (bytesText r))) (1 + 2 * (5 + byteAt (colon ∷ bytesText r) 1)) (omega (arith, asked, good .size, bytes-length r)))
+
+  line-spells : recordOf (recordText r) ≡ r
+  unfolding recordText bodyOf atEnd spelledBy
+  line-spells =
+      rw (body-bytes r, colon-shaped)
+      (sym (is-tabulate 0 (5 + byteAt (colon ∷ bytesText r) 1) (λ i. byteAt (colon ∷ bytesText r) (1 + 2 * i)) r
+      (omega (arith, colon-byte 0 (omega (arith, good .size)), good .size)) (λ k h. sym (colon-byte k (omega (arith, colon-byte 0 (omega (arith, good .size)), good .size))))))
+
+  line-first : (rest : List ℕ) → lines (recordText r ++ rest) ≡ recordText r ∷ lines rest
+  unfolding recordText lines
+  line-first rest = rw (append-assoc (bytesText r) (LF ∷ []) rest, lines-bytes r rest)
+
+  record-first : (rest : List ℕ) → records (recordText r ++ rest) ≡ r ∷ records rest
+  record-first rest = rw (line-first rest, line-spells)
+
+-- the records of lines one after the other
+pub records-front : (n : ℕ) (f : ℕ → List ℕ) → ((k : ℕ) → k < n → Good (f k)) → (rest : List ℕ)
+    → records (flatMap recordText (tabulate n f) ++ rest) ≡ tabulate n f ++ records rest
+unfolding flatMap tabulate
+records-front zero f good rest = refl
+records-front (suc n) f good rest =
+    let later = flatMap recordText (tabulate n (λ k. f (suc k))) in
+    ap records (append-assoc (recordText (f 0)) later rest) ∙ record-first (f 0) (good 0 (omega arith)) (later ++ rest)
+    ∙ ap (λ (rs : List (List ℕ)). f 0 ∷ rs) (records-front n (λ k. f (suc k)) (λ k h. good (suc k) (omega arith)) rest)
+
+pub records-one : (r : List ℕ) → Good r → records (recordText r) ≡ r ∷ []
+unfolding lines
+records-one r good = ap records (sym (append-nil (recordText r))) ∙ record-first r good []

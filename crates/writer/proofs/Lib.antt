@@ -1,0 +1,4 @@
+pub mod Lists
+pub mod Spelling
+pub mod Rows
+pub mod Unique

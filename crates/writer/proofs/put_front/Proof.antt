@@ -1,0 +1,60 @@
+-- `writer::put_front`. The colon and four bytes in turn are the front.
+-- Assumes nothing.
+use native.Mathlib.Omega.{arith}
+use borrow.Author.Needs.{needs}
+use lib.ListN.{length-set}
+use Rattle.writer.proofs.Spelling.{front-stored}
+use Rattle.writer.proofs.put_front.Statement.{statement}
+use Rattle.writer.proofs.put_front.Tie as tie
+
+slice-write-text : tie.Need-slice-write-text
+slice-write-text c = search needs
+
+add-put-byte : tie.Need-add-put-byte
+add-put-byte c = search needs
+
+put-byte-requires : tie.Need-put-byte-requires
+put-byte-requires c κs = simp length-set (omega arith)
+
+add-put-byte-2 : tie.Need-add-put-byte-2
+add-put-byte-2 c = search needs
+
+put-byte-requires-2 : tie.Need-put-byte-requires-2
+put-byte-requires-2 c κs = let a = c .before .before .before .before .before .before .args in omega (arith, length-set (a .text .now) (a .at) 58)
+
+add-put-byte-3 : tie.Need-add-put-byte-3
+add-put-byte-3 c = search needs
+
+put-byte-requires-3 : tie.Need-put-byte-requires-3
+put-byte-requires-3 c κs = let a = c .before .before .before .before .before .before .before .before .before .before .args in omega (arith, length-set (a .text .now) (a .at) 58)
+
+add-put-byte-4 : tie.Need-add-put-byte-4
+add-put-byte-4 c = search needs
+
+put-byte-requires-4 : tie.Need-put-byte-requires-4
+put-byte-requires-4 c κs = let a = c .before .before .before .before .before .before .before .before .before .before .before .before .before .before .args in omega (arith, length-set (a .text .now) (a .at) 58)
+
+same-length : tie.Need-same-length
+same-length c = let a = c .before .before .before .before .before .before .before .before .before .before .before .before .before .before .before .before .before .args in omega (arith, length-set (a .text .now) (a .at) 58)
+
+returns : tie.Need-returns
+returns c =
+    rw
+    (c .before .before .put-byte4 .ensures, c .before .before .before .before .before .before .put-byte3 .ensures, c .before .before .before .before .before .before .before .before .before .before .put-byte2 .ensures, c .before .before .before .before .before .before .before .before .before .before .before .before .before .before .put-byte .ensures)
+    (front-stored _ _ _ _ _ _)
+
+pub put-front-spec : {M : Type 1} → statement M
+put-front-spec =
+    tie.close
+    (tie.spec
+    slice-write-text
+    add-put-byte
+    put-byte-requires
+    add-put-byte-2
+    put-byte-requires-2
+    add-put-byte-3
+    put-byte-requires-3
+    add-put-byte-4
+    put-byte-requires-4
+    same-length
+    returns)

@@ -1,0 +1,93 @@
+-- `writer::put_record`. Front, data and back in turn are the record's line, and the sum of its data with that of its front is the sum of
+-- the record.
+-- Assumes nothing.
+use Prim.Native.Nat.{_+_, _*_, _/_, _%_}
+use borrow.Author.Needs.{needs}
+use lib.ListN.{getD}
+use Rattle.image.specs.Image.{imageOf}
+use Rattle.image.proofs.Lists.{length-tabulate}
+use Rattle.writer.specs.Text.{bytesIn, recordIn}
+use Rattle.writer.proofs.Spelling.{frame-sum, record-stored}
+use Rattle.writer.proofs.put_record.Statement.{statement}
+use Rattle.writer.proofs.put_record.Tie as tie
+
+mul-at : tie.Need-mul-at
+mul-at c = search needs
+
+mul-address : tie.Need-mul-address
+mul-address c = search needs
+
+cast-count : tie.Need-cast-count
+cast-count c = search needs
+
+cast-high : tie.Need-cast-high
+cast-high c = search needs
+
+cast-low : tie.Need-cast-low
+cast-low c = search needs
+
+put-front-requires : tie.Need-put-front-requires
+put-front-requires c κs = search needs
+
+add-put-data : tie.Need-add-put-data
+add-put-data c = search needs
+
+put-data-requires : tie.Need-put-data-requires
+put-data-requires c κs = search needs
+
+add-wrapping-add-u8 : tie.Need-add-wrapping-add-u8
+add-wrapping-add-u8 c = search needs
+
+wrapping-add-u8-requires : tie.Need-wrapping-add-u8-requires
+wrapping-add-u8-requires c κs = search needs
+
+wrapping-add-u8-requires-2 : tie.Need-wrapping-add-u8-requires-2
+wrapping-add-u8-requires-2 c κs = search needs
+
+add-put-back : tie.Need-add-put-back
+add-put-back c = search needs
+
+mul-put-back : tie.Need-mul-put-back
+mul-put-back c = search needs
+
+add-put-back-2 : tie.Need-add-put-back-2
+add-put-back-2 c = search needs
+
+put-back-requires : tie.Need-put-back-requires
+put-back-requires c κs = search needs
+
+same-length : tie.Need-same-length
+same-length c = search needs
+
+returns : tie.Need-returns
+unfolding recordIn
+returns c =
+    let s = c .before .before .before .before .before .before .before .before .before .before .before .before .before .before .before .before in
+    let image = imageOf (s .args .font .now) in
+    let n = s .args .n in
+    let spelled = c .before .before .before .before .before .before .before .before .put-data in
+    rw (c .before .before .put-back .ensures, spelled .ensures .1, c .before .before .before .before .before .before .before .before .before .before .before .before .put-front .ensures)
+    (record-stored (s .args .text .now) (44 * n) (16 * n) (bytesIn image n) _ (length-tabulate 16 (λ i. getD image (16 * n + i) 0))
+    (frame-sum (bytesIn image n) (16 * n / 256) (16 * n % 256) _ _ _ (spelled .ensures .0) (c .before .before .before .before .before .wrapping-add-u8 .ensures) (c .before .before .before .before .wrapping-add-u82 .ensures)))
+
+pub put-record-spec : {M : Type 1} → statement M
+put-record-spec =
+    tie.close
+    (tie.spec
+    mul-at
+    mul-address
+    cast-count
+    cast-high
+    cast-low
+    put-front-requires
+    add-put-data
+    put-data-requires
+    add-wrapping-add-u8
+    wrapping-add-u8-requires
+    wrapping-add-u8-requires-2
+    add-put-back
+    mul-put-back
+    add-put-back-2
+    put-back-requires
+    same-length
+    returns)
