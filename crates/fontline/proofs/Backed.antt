@@ -38,15 +38,15 @@ unfolding lineWith
 line-before line byte some l e =
     let at : line .start - 1 ≡ 36 - suc (length l) = omega (arith, line-start line l e) in
     let new : set (line .bytes) (line .start - 1) byte ≡ replicate (36 - suc (length l)) 0 ++ (byte ∷ l) =
-        ap (λ (b : List ℕ). set b (line .start - 1) byte) (line-bytes line l e) ∙ ap (λ q. set (replicate (36 - length l) 0 ++ l) q byte) at
-        ∙ one-more l byte (36 - suc (length l)) (omega (arith, line-start line l e)) in
+    ap (λ (b : List ℕ). set b (line .start - 1) byte) (line-bytes line l e) ∙ ap (λ q. set (replicate (36 - length l) 0 ++ l) q byte) at
+    ∙ one-more l byte (36 - suc (length l)) (omega (arith, line-start line l e)) in
     λ i. record { bytes = new i; start = at i }
 
 -- digits: a number of two or more leaves fewer to write
 pub fewer : (k rest : ℕ) → 9 < rest → rest < 10 ^ k → (1 < k) × (rest / 10 < 10 ^ (k - 1))
 fewer zero rest h g = absurd (omega arith)
 fewer (suc zero) rest h g = absurd (omega arith)
-fewer (suc (suc j)) rest h g = 
+fewer (suc (suc j)) rest h g =
     let e : suc (suc j) - 1 ≡ suc j = omega arith in
     (omega arith, rw e (omega (arith, pow-suc 10 (suc j))))
 
@@ -88,10 +88,11 @@ line-fits s = go (eqb (s .number) 0)
     go false = omega (arith, digits-fit 10 (s .number) (atWord ++ decimal (s .place) (10 ∷ [])), digits-fit 10 (s .place) (10 ∷ []))
 
 pub line-room : (line : Line) (s : Said) → line ≡ lineWith (lineFor s) → (length (line .bytes) ≡ 36) × (line .start ≤ 36)
-line-room line s e =
-    (ap length (line-bytes line (lineFor s) e) ∙ length-append (replicate (36 - length (lineFor s)) 0) (lineFor s)
-     ∙ ap (λ n. n + length (lineFor s)) (length-replicate {A = ℕ} (36 - length (lineFor s)) 0) ∙ whole,
-     omega (arith, line-start line (lineFor s) e))
+line-room line s e = (
+  ap length (line-bytes line (lineFor s) e) ∙ length-append (replicate (36 - length (lineFor s)) 0) (lineFor s)
+      ∙ ap (λ n. n + length (lineFor s)) (length-replicate {A = ℕ} (36 - length (lineFor s)) 0) ∙ whole,
+  omega (arith, line-start line (lineFor s) e),
+)
   where
     whole : 36 - length (lineFor s) + length (lineFor s) ≡ 36
     whole = omega (arith, line-fits s)

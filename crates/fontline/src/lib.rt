@@ -44,7 +44,11 @@ fn read_told(outcome: Outcome) -> Told
     ensures { λ r. ⌜ told r ≡ Hex·said outcome ⌝ }
 {
     match outcome {
-        Outcome::Done(count) => Told { number: 0, place: 0, value: count },
+        Outcome::Done(count) => Told {
+            number: 0,
+            place: 0,
+            value: count,
+        },
         Outcome::NoRoom => refused(6, 0),
         Outcome::BadShape(place) => refused(7, place),
         Outcome::BadSum(place) => refused(8, place),
@@ -59,7 +63,11 @@ fn turned_told(turned: Turned) -> Told
     ensures { λ r. ⌜ told r ≡ Image·said turned ⌝ }
 {
     match turned {
-        Turned::Done => Told { number: 0, place: 0, value: 0 },
+        Turned::Done => Told {
+            number: 0,
+            place: 0,
+            value: 0,
+        },
         Turned::NotAFont(place) => refused(13, place),
     }
 }
@@ -67,7 +75,11 @@ fn turned_told(turned: Turned) -> Told
 fn refused(number: u32, place: u32) -> Told
     ensures { λ r. ⌜ told r ≡ Rattle.laws.specs.Said.refused number place ⌝ }
 {
-    Told { number, place, value: 0 }
+    Told {
+        number,
+        place,
+        value: 0,
+    }
 }
 
 fn accepted_line(count: u32) -> Line
@@ -80,7 +92,10 @@ fn refused_line(number: u32, place: u32) -> Line
     requires { ⌜ 0 < number ⌝ }
     ensures { λ r. ⌜ r ≡ lineWith (lineFor (Rattle.laws.specs.Said.refused number place)) ⌝ }
 {
-    words_before(b"refused ", number_before(number, words_before(b" at ", number_before(place, ended()))))
+    words_before(
+        b"refused ",
+        number_before(number, words_before(b" at ", number_before(place, ended()))),
+    )
 }
 
 // The line's end alone.

@@ -28,6 +28,7 @@ judged-same ls ls′ rs k n e = go (ltb k (length rs)) (ltb 0 (faultAt rs k)) re
   where
     number : {s s′ : Said} → s ≡ s′ → s .number ≡ s′ .number
     number e = ap (λ (s : Said). s .number) e
+
     go : (a f : Bool) → ltb 0 (faultAt rs k) ≡ f → (l : Bool)
         → pick a (pick f (refused (faultAt rs k) (placeOf ls k)) (pick l (refused 12 (placeOf ls (k + 1))) (accepted (countOf rs)))) (refused 12 (placeOf ls k)) ≡ accepted n
         → pick a (pick f (refused (faultAt rs k) (placeOf ls′ k)) (pick l (refused 12 (placeOf ls′ (k + 1))) (accepted (countOf rs)))) (refused 12 (placeOf ls′ k)) ≡ accepted n
@@ -67,9 +68,13 @@ module _ (body body′ : List ℕ) (alike : Alike body body′) where
   shaped-alike : isShaped body ≡ isShaped body′
   unfolding isShaped
   shaped-alike =
-      rw (alike .first, alike .size, bytes-alike 0,
+      rw (
+        alike .first,
+        alike .size,
+        bytes-alike 0,
         all-alike (drop 1 body) (drop 1 body′) (length-drop 1 body ∙ ap (λ n. n - 1) (alike .size) ∙ sym (length-drop 1 body′))
-        (λ k. ap digit (getD-drop 1 body k 0) ∙ alike .digits k ∙ sym (ap digit (getD-drop 1 body′ k 0))))
+            (λ k. ap digit (getD-drop 1 body k 0) ∙ alike .digits k ∙ sym (ap digit (getD-drop 1 body′ k 0))),
+      )
 
   -- they are the same record
   pub alike-spells : spelledBy body ≡ spelledBy body′

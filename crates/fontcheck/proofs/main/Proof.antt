@@ -4,12 +4,6 @@ use native.Mathlib.Omega.{arith}
 use borrow.Author.Needs.{needs}
 use Rattle.fontcheck.proofs.main.Statement.{statement}
 use Rattle.fontcheck.proofs.main.Tie as tie
-use Rattle.fontcheck.proofs.main.Reads as reads
-use Rattle.fontcheck.proofs.main.Lts as lts
-use Rattle.fontline.proofs.check.Reads as check-reads
-use Rattle.io.proofs.large_buffer.Reads as large-buffer-reads
-use Rattle.io.proofs.read_full.Reads as read-full-reads
-use Rattle.io.proofs.write_all.Reads as write-all-reads
 
 large-buffer-requires : tie.Need-large-buffer-requires
 large-buffer-requires c κs = search needs

@@ -3,8 +3,6 @@ use native.Mathlib.Omega.{arith}
 use borrow.Author.Needs.{needs}
 use Rattle.fontline.proofs.before.Statement.{statement}
 use Rattle.fontline.proofs.before.Tie as tie
-use Rattle.fontline.proofs.before.Reads as reads
-use Rattle.fontline.proofs.before.Lts as lts
 
 sub-start : tie.Need-sub-start
 sub-start c = search needs

@@ -12,14 +12,6 @@ use mathlib.Core.Path.{_≡_, refl, sym, _∙_, ap}
 use borrow.Author.Needs.{needs}
 use Rattle.fontline.proofs.check.Statement.{statement}
 use Rattle.fontline.proofs.check.Tie as tie
-use Rattle.fontline.proofs.check.Reads as reads
-use Rattle.fontline.proofs.check.Lts as lts
-use Rattle.fontline.proofs.accepted_line.Reads as accepted-line-reads
-use Rattle.fontline.proofs.read_told.Reads as read-told-reads
-use Rattle.fontline.proofs.refused_line.Reads as refused-line-reads
-use Rattle.fontline.proofs.turned_told.Reads as turned-told-reads
-use Rattle.hex.proofs.read.Reads as read-reads
-use Rattle.image.proofs.image_to_font.Reads as image-to-font-reads
 
 slice-aggregate-read : tie.Need-slice-aggregate-read
 slice-aggregate-read c = search needs
@@ -60,7 +52,7 @@ returns-2 c = let text = c .before .before .before .before .before .before .befo
     let fine = c .before .before .before .before .before .before .before .before .if1 .left in
     let image = read .1 ∙ image-read text (replicate 8192 0) (length-replicate {A = ℕ} 8192 0) (sym (ap (λ (s : Said). s .number) (c .before .before .before .before .before .before .before .before .before .before .read-told .ensures ∙ read .0)) ∙ fine) in
     let turned = c .before .before .before .turned-told .ensures ∙ c .before .before .before .before .before .image-to-font .ensures .0
-        ∙ ap (λ (l : List ℕ). turning l (length {A = ℕ} (replicate 1116 0))) image ∙ ap (turning (imageIn text)) (length-replicate {A = ℕ} 1116 0) in
+    ∙ ap (λ (l : List ℕ). turning l (length {A = ℕ} (replicate 1116 0))) image ∙ ap (turning (imageIn text)) (length-replicate {A = ℕ} 1116 0) in
     c .refused-line2 .ensures ∙ ap lineWith (turning-refuses text (c .before .before .before .before .before .before .before .before .before .before .read-told .result) is fine (c .before .before .before .turned-told .result) turned (c .before .if2 .taken))
 
 accepted-line-requires : tie.Need-accepted-line-requires
@@ -73,7 +65,7 @@ returns-3 c = let text = c .before .before .before .before .before .before .befo
     let fine = c .before .before .before .before .before .before .before .before .if1 .left in
     let image = read .1 ∙ image-read text (replicate 8192 0) (length-replicate {A = ℕ} 8192 0) (sym (ap (λ (s : Said). s .number) (c .before .before .before .before .before .before .before .before .before .before .read-told .ensures ∙ read .0)) ∙ fine) in
     let turned = c .before .before .before .turned-told .ensures ∙ c .before .before .before .before .before .image-to-font .ensures .0
-        ∙ ap (λ (l : List ℕ). turning l (length {A = ℕ} (replicate 1116 0))) image ∙ ap (turning (imageIn text)) (length-replicate {A = ℕ} 1116 0) in
+    ∙ ap (λ (l : List ℕ). turning l (length {A = ℕ} (replicate 1116 0))) image ∙ ap (turning (imageIn text)) (length-replicate {A = ℕ} 1116 0) in
     c .accepted-line .ensures ∙ ap lineWith (both-accept text (c .before .before .before .before .before .before .before .before .before .before .read-told .result) is fine (c .before .before .before .turned-told .result) turned (c .before .if2 .left))
 
 pub check-spec : {M : Type 1} → statement M

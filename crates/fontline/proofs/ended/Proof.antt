@@ -3,8 +3,6 @@ use mathlib.Core.Path.{refl}
 use borrow.Author.Needs.{needs}
 use Rattle.fontline.proofs.ended.Statement.{statement}
 use Rattle.fontline.proofs.ended.Tie as tie
-use Rattle.fontline.proofs.ended.Reads as reads
-use Rattle.fontline.proofs.ended.Lts as lts
 
 array-write-bytes : tie.Need-array-write-bytes
 array-write-bytes c = search needs

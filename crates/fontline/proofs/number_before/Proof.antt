@@ -8,9 +8,6 @@ use mathlib.Core.Path.{_≡_, refl, sym, _∙_, ap}
 use Prim.Native.Nat.{ℕ, _+_, _-_, _^_, _<_, _≤_}
 use Rattle.fontline.proofs.number_before.Statement.{statement}
 use Rattle.fontline.proofs.number_before.Tie as tie
-use Rattle.fontline.proofs.number_before.Reads as reads
-use Rattle.fontline.proofs.number_before.Lts as lts
-use Rattle.fontline.proofs.before.Reads as before-reads
 
 abbrev Inv-loop : tie.InvT-loop
 Inv-loop n rest₀ line₀ rest line = (line₀ .start ≤ line .start + 9) × (line .start ≤ line₀ .start) × (rest < 10 ^ (line .start + 10 - line₀ .start))
@@ -41,11 +38,14 @@ loop-again : tie.Need-loop-again Inv-loop μ-loop
 loop-again c = let s = c .before .before .before in let at = c .before .before .loop in let done = c .before2 .ensures in
     let k = at .line .start + 10 - s .args .line .start in
     let few = fewer k (at .rest) (c .before .loop-test .taken) (at .inv .2) in
-    let e : c .before2 .result .start + 10 - s .args .line .start ≡ k - 1 = omega (arith, done .0, few .0) in
-    (omega (arith, done .0, few .0), omega (arith, done .0), rw e (few .1),
-     λ l h.
-         let t = at .inv .3 l h in
-         (_, done .1 _ (t .1), rw e (sym (digit-more k (at .rest) (t .0) (c .before .loop-test .taken) (few .0)) ∙ t .2)))
+    let e : c .before2 .result .start + 10 - s .args .line .start ≡ k - 1 = omega (arith, done .0, few .0) in (
+      omega (arith, done .0, few .0),
+      omega (arith, done .0),
+      rw e (few .1),
+      λ l h.
+          let t = at .inv .3 l h in
+          (_, done .1 _ (t .1), rw e (sym (digit-more k (at .rest) (t .0) (c .before .loop-test .taken) (few .0)) ∙ t .2)),
+    )
 
 cast-before-2 : tie.Need-cast-before-2 Inv-loop μ-loop
 cast-before-2 c = search needs
@@ -57,11 +57,13 @@ before-requires-2 : tie.Need-before-requires-2 Inv-loop μ-loop
 before-requires-2 c κs = (omega arith, omega arith)
 
 returns : tie.Need-returns Inv-loop μ-loop
-returns c = let s = c .before .before .before in let at = c .before .before .loop in let done = c .before3 .ensures in
-    (omega (arith, done .0), omega (arith, done .0),
-     λ l h.
-         let t = at .inv .3 l h in
-         done .1 _ (t .1) ∙ ap lineWith (sym (digit-last (at .line .start + 10 - s .args .line .start) (at .rest) (t .0) (omega arith) (omega arith)) ∙ t .2))
+returns c = let s = c .before .before .before in let at = c .before .before .loop in let done = c .before3 .ensures in (
+  omega (arith, done .0),
+  omega (arith, done .0),
+  λ l h.
+      let t = at .inv .3 l h in
+      done .1 _ (t .1) ∙ ap lineWith (sym (digit-last (at .line .start + 10 - s .args .line .start) (at .rest) (t .0) (omega arith) (omega arith)) ∙ t .2),
+)
 
 pub number-before-spec : {M : Type 1} → statement M
 number-before-spec =

@@ -3,9 +3,6 @@ use mathlib.Core.Path.{_≡_, refl, sym, _∙_, ap}
 use borrow.Author.Needs.{needs}
 use Rattle.fontline.proofs.read_told.Statement.{statement}
 use Rattle.fontline.proofs.read_told.Tie as tie
-use Rattle.fontline.proofs.read_told.Reads as reads
-use Rattle.fontline.proofs.read_told.Lts as lts
-use Rattle.fontline.proofs.refused.Reads as refused-reads
 
 enum-known-outcome : tie.Need-enum-known-outcome
 enum-known-outcome c = search needs

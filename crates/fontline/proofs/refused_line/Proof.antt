@@ -7,11 +7,6 @@ use mathlib.Core.Path.{_≡_, refl, sym, _∙_, ap}
 use borrow.Author.Needs.{needs}
 use Rattle.fontline.proofs.refused_line.Statement.{statement}
 use Rattle.fontline.proofs.refused_line.Tie as tie
-use Rattle.fontline.proofs.refused_line.Reads as reads
-use Rattle.fontline.proofs.refused_line.Lts as lts
-use Rattle.fontline.proofs.ended.Reads as ended-reads
-use Rattle.fontline.proofs.number_before.Reads as number-before-reads
-use Rattle.fontline.proofs.words_before.Reads as words-before-reads
 
 slice-aggregate-words-before : tie.Need-slice-aggregate-words-before
 slice-aggregate-words-before c = search needs

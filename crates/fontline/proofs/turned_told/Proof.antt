@@ -3,9 +3,6 @@ use mathlib.Core.Path.{_≡_, refl, sym, _∙_, ap}
 use borrow.Author.Needs.{needs}
 use Rattle.fontline.proofs.turned_told.Statement.{statement}
 use Rattle.fontline.proofs.turned_told.Tie as tie
-use Rattle.fontline.proofs.turned_told.Reads as reads
-use Rattle.fontline.proofs.turned_told.Lts as lts
-use Rattle.fontline.proofs.refused.Reads as refused-reads
 
 enum-told : tie.Need-enum-told
 enum-told c = search needs

@@ -9,9 +9,6 @@ use mathlib.Core.Path.{_≡_, refl, sym, _∙_, ap}
 use Prim.Native.Nat.{ℕ, _+_, _-_, _<_, _≤_}
 use Rattle.fontline.proofs.words_before.Statement.{statement}
 use Rattle.fontline.proofs.words_before.Tie as tie
-use Rattle.fontline.proofs.words_before.Reads as reads
-use Rattle.fontline.proofs.words_before.Lts as lts
-use Rattle.fontline.proofs.before.Reads as before-reads
 
 abbrev Inv-loop : tie.InvT-loop
 Inv-loop words i₀ line₀ i line = (i ≤ length words) × (line .start + length words ≡ line₀ .start + i) × ((l : List ℕ) → line₀ ≡ lineWith l → line ≡ lineWith (drop i words ++ l))

@@ -8,8 +8,6 @@ use mathlib.Core.Path.{_≡_, sym, _∙_, ap}
 use borrow.Author.Needs.{needs}
 use Rattle.hex.proofs.past_end.Statement.{statement}
 use Rattle.hex.proofs.past_end.Tie as tie
-use Rattle.hex.proofs.past_end.Reads as reads
-use Rattle.hex.proofs.past_end.Lts as lts
 
 returns : tie.Need-returns
 returns c = let a = c .before .args in sym (past-over (a .text .now) (a .place) (omega arith))

@@ -4,8 +4,6 @@ use Rattle.image.specs.Image.{leastAt}
 use borrow.Author.Tests.{lt-ltb, le-ltb}
 use Rattle.image.proofs.least.Statement.{statement}
 use Rattle.image.proofs.least.Tie as tie
-use Rattle.image.proofs.least.Reads as reads
-use Rattle.image.proofs.least.Lts as lts
 
 returns : tie.Need-returns
 unfolding leastAt

@@ -5,8 +5,6 @@ use native.Mathlib.Omega.{arith}
 use borrow.Author.Needs.{needs}
 use Rattle.image.proofs.row.Statement.{statement}
 use Rattle.image.proofs.row.Tie as tie
-use Rattle.image.proofs.row.Reads as reads
-use Rattle.image.proofs.row.Lts as lts
 
 mul-low : tie.Need-mul-low
 mul-low c = search needs
