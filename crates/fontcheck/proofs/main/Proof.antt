@@ -1,3 +1,5 @@
+-- `fontcheck::main` meets its contract: the line has room in its bytes, so the part from its start on is within them.
+-- Assumes nothing.
 use Rattle.fontline.proofs.Backed.{line-room}
 use mathlib.Core.Path.{sym}
 use native.Mathlib.Omega.{arith}

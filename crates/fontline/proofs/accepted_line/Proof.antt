@@ -1,3 +1,5 @@
+-- `fontline::accepted_line` meets its contract: the parts are put before one another from the line's end on, and the room is enough.
+-- Assumes nothing.
 use Rattle.fontline.proofs.Backed.{line-start}
 use Rattle.fontline.specs.Lines.{lineFor}
 use native.Mathlib.Omega.{arith}

@@ -1,3 +1,5 @@
+-- `fontline::before` meets its contract: the byte takes the place of the last zero.
+-- Assumes nothing.
 use Rattle.fontline.proofs.Backed.{line-before}
 use native.Mathlib.Omega.{arith}
 use borrow.Author.Needs.{needs}

@@ -1,3 +1,5 @@
+-- `fontline::check` meets its contract: what the two calls say is what `checked` says, so the line is the line for it.
+-- Assumes nothing.
 use Rattle.fontline.proofs.Checking.{image-read, read-refuses, turning-refuses, both-accept}
 use Rattle.fontline.specs.Lines.{checked, lineFor, lineWith, told}
 use Rattle.hex.specs.Reading.{answerOf as reading}

@@ -1,3 +1,5 @@
+-- `fontline::ended` meets its contract: the bytes are the line's, by computation.
+-- Assumes nothing.
 use Rattle.fontline.specs.Lines.{lineWith}
 use mathlib.Core.Path.{refl}
 use borrow.Author.Needs.{needs}

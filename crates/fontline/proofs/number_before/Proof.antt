@@ -1,3 +1,5 @@
+-- `fontline::number_before` meets its contract: what is left of the number, before what is written, spells the whole; the measure is what is left of it.
+-- Assumes nothing.
 use borrow.Author.Needs.{needs}
 use Rattle.fontline.proofs.Backed.{fewer, digit-more, digit-last}
 use Rattle.fontline.specs.Lines.{lineWith, decimal, digitsBefore}

@@ -1,3 +1,5 @@
+-- `fontline::words_before` meets its contract: the words from place i on stand before the line; the measure is i.
+-- Assumes nothing.
 use borrow.Author.Needs.{needs}
 use Rattle.fontline.proofs.Backed.{word-more}
 use Rattle.fontline.specs.Lines.{lineWith}

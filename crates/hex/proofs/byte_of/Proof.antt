@@ -1,3 +1,5 @@
+-- `hex::byte_of` meets its contract: the one test decides the definition.
+-- Assumes nothing.
 use borrow.Author.Tests.{le-ltb, lt-ltb}
 use borrow.Author.Needs.{needs}
 use Rattle.hex.proofs.byte_of.Statement.{statement}

@@ -1,3 +1,5 @@
+-- `hex::collect` meets its contract: how far the reading has come (`Passed`) is the invariant, and each answer is the verdict at the line met; the measure is what is left of the text.
+-- Assumes nothing.
 use Rattle.hex.proofs.Passed.{blank-length}
 use Rattle.hex.proofs.Answers.{met-next, met-room, met-sum, met-long-end, met-far-end, met-more, met-done, met-all, met-type, met-past, met-twice, met-passed}
 use Rattle.hex.proofs.Faults.{is-end, end-length, other-type, long-end, far-end, fault-shape, fault-sum, fault-type, fault-end, fault-past, fault-twice, fault-none}

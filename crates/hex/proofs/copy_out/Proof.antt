@@ -1,3 +1,5 @@
+-- `hex::copy_out` meets its contract: the bytes passed are the cells', the others as lent; the measure is what is left of the image.
+-- Assumes nothing.
 use borrow.Author.Needs.{needs}
 use Rattle.hex.specs.Steps.{byteOf}
 use Rattle.image.proofs.Lists.{Filled, filled-none, filled-more, filled-all}

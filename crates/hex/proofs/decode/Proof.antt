@@ -1,3 +1,5 @@
+-- `hex::decode` meets its contract: the bytes passed are decoded and summed, and all their digits are digits; the measure is what is left of them.
+-- Assumes nothing.
 use borrow.Author.Needs.{needs}
 use Rattle.hex.proofs.Steps.{table-digit, sum-bad, sum-good, sum-more, digits-more}
 use Rattle.hex.specs.Steps.{bytesFrom}

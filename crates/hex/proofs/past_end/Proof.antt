@@ -1,3 +1,5 @@
+-- `hex::past_end` meets its contract: what stands at the place decides the definition, one answer for each way.
+-- Assumes nothing.
 use Prim.Native.Nat.{_+_}
 use Rattle.hex.proofs.Steps.{past-over, past-here}
 use native.Mathlib.Omega.{arith}

@@ -1,3 +1,5 @@
+-- `hex::read` meets its contract: the tests of the two lengths, then the verdict that `collect` gives; the room is written only where that is acceptance.
+-- Assumes nothing.
 use Rattle.hex.proofs.Outcomes.{answers, leaves, keeps, not-done}
 use Rattle.hex.specs.Steps.{blank}
 use Rattle.hex.specs.Reading.{answerOf, leftOf, said, verdict}

@@ -1,3 +1,5 @@
+-- `hex::store` meets its contract: none of the cells passed was given, and they hold the record's data; the measure is what is left of it.
+-- Assumes nothing.
 use borrow.Author.Needs.{needs}
 use Rattle.hex.proofs.Steps.{stored-none, stored-more, stored-past}
 use Rattle.hex.specs.Steps.{storedAt}

@@ -1,3 +1,5 @@
+-- `image::first_lack` meets its contract: no address passed lacks a bit, so the one found is the first; the measure is what is left of the image.
+-- Assumes nothing.
 use lib.Dec.{ltb}
 use native.Mathlib.Nat.{not-suc-le-zero}
 use borrow.Author.Needs.{needs}

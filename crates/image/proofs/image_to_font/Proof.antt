@@ -1,3 +1,5 @@
+-- `image::image_to_font` meets its contract: each way out fixes the tests of the answer, and with them what is left in the room.
+-- Assumes nothing.
 use Rattle.image.specs.Image.{answerOf, leftOf, firstLack}
 use native.Mathlib.Omega.{arith}
 use borrow.Author.Tests.{eq-eqb, ne-eqb, lt-ltb, le-ltb}

@@ -1,3 +1,5 @@
+-- `image::least` meets its contract: the tests in the order of the definition decide it, one answer for each way.
+-- Assumes nothing.
 use native.Mathlib.Omega.{arith}
 use Prim.Native.Nat.{_/_, _%_}
 use Rattle.image.specs.Image.{leastAt}

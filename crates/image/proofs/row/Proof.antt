@@ -1,3 +1,5 @@
+-- `image::row` meets its contract: the sum is the definition's; a byte read is below 256, so it fits.
+-- Assumes nothing.
 use Prim.Native.Nat.{_+_, _*_, _/_, _%_}
 use Rattle.image.specs.Image.{rowIn}
 use mathlib.Core.Path.{refl}
