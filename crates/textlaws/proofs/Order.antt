@@ -20,7 +20,7 @@ use Rattle.image.proofs.Lists.{both-parts, first-is, first-none, first-before, 
 use Rattle.hex.specs.Lines.{lines, placeOf, total}
 use Rattle.hex.specs.Records.{records, lengthOf, addressOf, typeOf, sumOf, isEnd, gives, dataAt, byteIn, isGiven, freshIn, countOf, faultOf}
 use Rattle.hex.specs.Reading.{nth, faultAt, stopsAt, stopOf, judged, verdict, imageIn}
-use Rattle.hex.proofs.Faults.{end-length}
+use Rattle.hex.proofs.Given.{in-none}
 
 never : {A : Type 0} → true ≡ false → A
 never e = let z : _≡_ {A = ℕ} 0 1 = cc in absurd (omega arith)
@@ -247,3 +247,75 @@ module _ (rs rs′ : List (List ℕ)) (order : Reordered rs rs′) (all : Good r
         going = λ j h. ap isEnd (there j (omega arith)) ∙ all .going (order .to j) (omega (arith, order .within j (omega (arith, all .size)), all .size));
         ends = ap isEnd (there (all .last) (omega arith) ∙ ap (nth rs) (order .last (all .last) (sym (all .size)))) ∙ all .ends
       }
+
+-- the byte at an address is that of the first record that gives one
+in-at : (none : ℕ) (rs : List (List ℕ)) (a j : ℕ) → j < length rs → gives (nth rs j) a ≡ true → ((i : ℕ) → i < j → gives (nth rs i) a ≡ true → ⊥)
+    → byteIn none rs a ≡ dataAt (nth rs j) a
+unfolding byteIn
+in-at none [] a j h g before = absurd (not-suc-le-zero h)
+in-at none (r ∷ rs) a zero h g before = rw g
+in-at none (r ∷ rs) a (suc j) h g before =
+    go (gives r a) refl (in-at none rs a j (le-of-suc-le-suc h) g (λ i l k. before (suc i) (omega arith) k))
+  where
+    go : (b : Bool) → gives r a ≡ b → byteIn none rs a ≡ dataAt (nth rs j) a → pick b (dataAt r a) (byteIn none rs a) ≡ dataAt (nth rs j) a
+    go true e ih = absurd (before 0 (omega arith) e)
+    go false e ih = ih
+
+module _ (rs rs′ : List (List ℕ)) (order : Reordered rs rs′) (all : Good rs) where
+  from-within : (j : ℕ) → j < length rs → order .from j < length rs
+  from-within j h = go (ℕ-discrete (j + 1) (length rs))
+    where
+      go : Dec (j + 1 ≡ length rs) → order .from j < length rs
+      go (yes e) = omega (arith, sym (ap (order .from) (order .last j e)) ∙ order .from-to j)
+      go (no e) = omega (arith, order .back j (omega arith))
+
+  -- where a record gives the byte, the same record gives it after the change, and no other does
+  given-there : (a j : ℕ) → j < length rs → gives (nth rs j) a ≡ true → byteIn 255 rs′ a ≡ dataAt (nth rs j) a
+  given-there a j h g =
+      let j′ = order .from j in
+      let h′ = from-within j h in
+      let r : nth rs′ j′ ≡ nth rs j = order .same j′ h′ ∙ ap (nth rs) (order .to-from j) in
+      in-at 255 rs′ a j′ (omega (arith, order .size)) (ap (λ (x : List ℕ). gives x a) r ∙ g) (λ i l gi.
+      let last = all .size in
+      all .apart (order .to i) j (to-within rs rs′ order all i (omega arith)) (omega arith)
+      (λ e. other-place rs rs′ order all i j′ (omega arith) (e ∙ sym (order .to-from j))) a
+      (sym (ap (λ (x : List ℕ). gives x a) (order .same i (omega arith))) ∙ gi) g)
+      ∙ ap (λ (x : List ℕ). dataAt x a) r
+
+  given-here : (a j : ℕ) → j < length rs → gives (nth rs j) a ≡ true → byteIn 255 rs a ≡ dataAt (nth rs j) a
+  given-here a j h g =
+      let last = all .size in
+      in-at 255 rs a j h g (λ i l gi. all .apart i j (omega arith) (omega arith) (omega arith) a gi g)
+
+  not-there : (a : ℕ) → isGiven rs a ≡ false → isGiven rs′ a ≡ false
+  not-there a e =
+      none-given rs′ a (λ j l g.
+      let last = all .size in
+      let same = order .size in
+      let inside = to-within rs rs′ order all j (omega arith) in
+      given-none rs a e (order .to j) (omega arith) (sym (ap (λ (x : List ℕ). gives x a) (order .same j (omega arith))) ∙ g))
+
+  -- the image is the same
+  pub reordered-byte : (a : ℕ) → byteIn 255 rs a ≡ byteIn 255 rs′ a
+  reordered-byte a = go (decLt (firstOf (length rs) (λ j. gives (nth rs j) a)) (length rs))
+    where
+      go : Dec (firstOf (length rs) (λ j. gives (nth rs j) a) < length rs) → byteIn 255 rs a ≡ byteIn 255 rs′ a
+      go (yes h) =
+          let g = first-at (length rs) (λ j. gives (nth rs j) a) h in
+          given-here a _ h g ∙ sym (given-there a _ h g)
+      go (no h) =
+          let none : isGiven rs a ≡ false = none-given rs a (λ j l g.
+              let most = first-most (length rs) (λ j. gives (nth rs j) a) in
+              never (sym g ∙ first-before (length rs) (λ j. gives (nth rs j) a) j (omega arith))) in
+          in-none 255 rs a none ∙ sym (in-none 255 rs′ a (not-there a none))
+
+  pub reordered-image : tabulate 8192 (byteIn 255 rs) ≡ tabulate 8192 (byteIn 255 rs′)
+  reordered-image = tabulate-same 8192 (byteIn 255 rs) (byteIn 255 rs′) (λ a h. reordered-byte a)
+
+-- of texts: where one is accepted so is one with its records in another order, the end record last, and the two have one image
+pub order-verdict : (text text′ : List ℕ) (n : ℕ) → Reordered (records text) (records text′) → verdict text ≡ accepted n
+    → (verdict text′ ≡ accepted (countOf (records text′))) × (imageIn text ≡ imageIn text′)
+order-verdict text text′ n order e =
+    let all = good-of text n e in
+    (good-judged (records text′) (reordered-good (records text) (records text′) order all) (lines text′),
+     reordered-image (records text) (records text′) order all)
