@@ -1,10 +1,20 @@
 -- No second answer meets a promise of the C face.
 -- Assumes nothing.
-use mathlib.Core.Path.{_≡_, refl, sym, _∙_}
+use mathlib.Core.Path.{_≡_, refl, sym, ap, _∙_}
 use Rattle.laws.specs.Said.{Said}
 use Rattle.laws.proofs.Determined.{Determines, both-say, told-apart}
 use Rattle.dirgeflint.specs.Face.{told}
 use Rattle.dirgeflint.specs.declared.Answer.{Answer}
+use Rattle.dac.specs.declared.Dac.{Dac}
+use Rattle.dirgeflint.proofs.dac_face.dirgeflint_dac_reset as dac-reset
+use Rattle.dirgeflint.proofs.dac_face.dirgeflint_dac_write_low as dac-write-low
+use Rattle.dirgeflint.proofs.dac_face.dirgeflint_dac_write_high as dac-write-high
+use Rattle.dirgeflint.proofs.dac_face.dirgeflint_dac_play as dac-play
+use Rattle.dirgeflint.proofs.display_face.dirgeflint_paint as paint
+use Rattle.dirgeflint.proofs.port_face.dirgeflint_port_fresh as port-fresh
+use Rattle.dirgeflint.proofs.port_face.dirgeflint_port_write_address as port-write-address
+use Rattle.dirgeflint.proofs.port_face.dirgeflint_port_write_attribute as port-write-attribute
+use Rattle.dirgeflint.proofs.port_face.dirgeflint_port_write_character as port-write-character
 use Rattle.dirgeflint.proofs.pulse_face.dirgeflint_pulse_level as pulse-level
 
 -- the struct that tells this
@@ -16,3 +26,35 @@ one-answer = told-apart told telling (λ x. refl)
 
 pub dirgeflint-pulse-level-unique : Determines pulse-level.ended (λ w. pulse-level.clauses (w .𝓤) (w .H) (w .𝓖 .A) (w .𝓜 .mem) (w .𝓡 .run))
 dirgeflint-pulse-level-unique w κs a g g′ r r′ ws ws′ = both-say w (λ p q. (one-answer r r′ (p ∙ sym q), refl))
+
+-- the running record that the host lent
+pub dirgeflint-dac-reset-unique : Determines dac-reset.ended (λ w. dac-reset.clauses (w .𝓤) (w .H) (w .𝓖 .A) (w .𝓜 .mem) (w .𝓡 .run))
+dirgeflint-dac-reset-unique w κs a g g′ r r′ ws ws′ = both-say w (λ p q. (refl, ap (λ (d : Dac). (d, tt)) (p ∙ sym q)))
+
+pub dirgeflint-dac-write-low-unique : Determines dac-write-low.ended (λ w. dac-write-low.clauses (w .𝓤) (w .H) (w .𝓖 .A) (w .𝓜 .mem) (w .𝓡 .run))
+dirgeflint-dac-write-low-unique w κs a g g′ r r′ ws ws′ = both-say w (λ p q. (refl, ap (λ (d : Dac). (d, (tt, tt))) (p ∙ sym q)))
+
+pub dirgeflint-dac-write-high-unique : Determines dac-write-high.ended (λ w. dac-write-high.clauses (w .𝓤) (w .H) (w .𝓖 .A) (w .𝓜 .mem) (w .𝓡 .run))
+dirgeflint-dac-write-high-unique w κs a g g′ r r′ ws ws′ = both-say w (λ p q. (refl, ap (λ (d : Dac). (d, (tt, tt))) (p ∙ sym q)))
+
+pub dirgeflint-dac-play-unique : Determines dac-play.ended (λ w. dac-play.clauses (w .𝓤) (w .H) (w .𝓖 .A) (w .𝓜 .mem) (w .𝓡 .run))
+dirgeflint-dac-play-unique w κs a g g′ r r′ ws ws′ =
+    both-say w (λ p q. (one-answer r r′ (p .0 ∙ sym (q .0)), λ i. ((p .1 ∙ sym (q .1)) i, (tt, ((p .2 ∙ sym (q .2)) i, tt)))))
+
+-- the write port comes back
+pub dirgeflint-port-fresh-unique : Determines port-fresh.ended (λ w. port-fresh.clauses (w .𝓤) (w .H) (w .𝓖 .A) (w .𝓜 .mem) (w .𝓡 .run))
+dirgeflint-port-fresh-unique w κs a g g′ r r′ ws ws′ = both-say w (λ p q. (p ∙ sym q, refl))
+
+pub dirgeflint-port-write-address-unique : Determines port-write-address.ended (λ w. port-write-address.clauses (w .𝓤) (w .H) (w .𝓖 .A) (w .𝓜 .mem) (w .𝓡 .run))
+dirgeflint-port-write-address-unique w κs a g g′ r r′ ws ws′ = both-say w (λ p q. (p ∙ sym q, refl))
+
+pub dirgeflint-port-write-attribute-unique : Determines port-write-attribute.ended (λ w. port-write-attribute.clauses (w .𝓤) (w .H) (w .𝓖 .A) (w .𝓜 .mem) (w .𝓡 .run))
+dirgeflint-port-write-attribute-unique w κs a g g′ r r′ ws ws′ = both-say w (λ p q. (p ∙ sym q, refl))
+
+pub dirgeflint-port-write-character-unique : Determines port-write-character.ended (λ w. port-write-character.clauses (w .𝓤) (w .H) (w .𝓖 .A) (w .𝓜 .mem) (w .𝓡 .run))
+dirgeflint-port-write-character-unique w κs a g g′ r r′ ws ws′ = both-say w (λ p q. (p ∙ sym q, refl))
+
+-- the dots that the host lent
+pub dirgeflint-paint-unique : Determines paint.ended (λ w. paint.clauses (w .𝓤) (w .H) (w .𝓖 .A) (w .𝓜 .mem) (w .𝓡 .run))
+dirgeflint-paint-unique w κs a g g′ r r′ ws ws′ =
+    both-say w (λ p q. (one-answer r r′ (p .0 ∙ sym (q .0)), λ i. (tt, (tt, (tt, (tt, (tt, (tt, ((p .1 ∙ sym (q .1)) i, tt)))))))))

@@ -1,3 +1,5 @@
+pub mod Lines
 pub mod Pick
+pub mod Placing
 pub mod Said
 pub mod Within

@@ -1,0 +1,7 @@
+pub mod Answers
+pub mod Count
+pub mod Fine
+pub mod Proved
+pub mod Stream
+pub mod Unique
+pub mod Within

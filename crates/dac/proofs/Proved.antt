@@ -1,0 +1,106 @@
+-- The statements of specs/Theorems.antt, proved from the laws of the other files; `placed` and `reached` are in proofs/Stream.antt.
+-- Assumes nothing.
+use Prim.Native.Nat.{ℕ, zero, suc, _+_, _-_, _%_, _<_, _≤_}
+use mathlib.Core.Path.{_≡_, refl, sym, ap, ap₂, _∙_}
+use mathlib.Core.Bool.{false}
+use mathlib.Core.List.{List, [], _∷_, _++_, append-assoc, append-nil}
+use native.Mathlib.Omega.{arith}
+use lib.Count.{trailingZeros}
+use lib.ListN.{length, drop, length-append}
+use lib.Seq.{drop-length, drop-append-add}
+use borrow.Author.Tests.{ne-eqb}
+use Rattle.dac.specs.declared.Pair.{Pair}
+use Rattle.dac.specs.declared.Dac.{Dac}
+use Rattle.dac.specs.Wave.{period, pair, bit, added, level}
+use Rattle.dac.specs.Steps.{keptHalf, keptPair, dacOf, kept, nextLevel, clocked, afterClocks, levelsOf}
+use Rattle.dac.specs.Play.{tooMany, afterPlay}
+use Rattle.dac.specs.Stretch.{wave}
+use Rattle.dac.specs.Theorems.{Serves, BothHalves, Joined, Kept}
+use Rattle.dac.proofs.Within.{pair-kept, keptPair-kept, playing-kept, levels-split, after-split}
+use Rattle.dac.proofs.Answers.{not-many, may, accepted-play, lent-played}
+use Rattle.dac.proofs.Count.{one-pair}
+
+pub serves : Serves
+unfolding added
+serves fine = (refl, by-bit)
+  where
+    by-bit : (b n : ℕ) → b ≤ 6 → 0 < n → n < 128 → trailingZeros 7 n ≡ 6 - b → added fine n ≡ bit fine b
+    by-bit b n hb some hn e =
+        let back : 6 - (6 - b) ≡ b = omega arith in
+        rw (ne-eqb n 0 (λ z. omega arith), e, back)
+
+same-wave : (p q : Pair) (a n : ℕ) → ((i : ℕ) → a ≤ i → i < a + n → level p i ≡ level q i) → wave p a n ≡ wave q a n
+unfolding wave
+same-wave p q a zero h = refl
+same-wave p q a (suc n) h =
+    ap₂ (λ (l : ℕ) (ls : List ℕ). l ∷ ls) (h a (omega arith) (omega arith)) (same-wave p q (suc a) n (λ i lo hi. h i (omega arith) (omega arith)))
+
+kept-small : (p : Pair) → keptPair p ≡ p → (p .coarse < 128) × (p .fine < 128)
+kept-small p e =
+    let c : p .coarse % 128 ≡ p .coarse = ap (λ (x : Pair). x .coarse) e in
+    let f : p .fine % 128 ≡ p .fine = ap (λ (x : Pair). x .fine) e in
+    (omega arith, omega arith)
+
+pub both-halves : BothHalves
+both-halves p q kp kq h =
+    let a = kept-small p kp in
+    let b = kept-small q kq in
+    let e : p ≡ q = one-pair p q (a .0) (a .1) (b .0) (b .1) (same-wave p q 0 period (λ i lo hi. h i (omega arith))) in
+    (ap (λ (x : Pair). x .coarse) e, ap (λ (x : Pair). x .fine) e)
+
+pub joined : Joined
+joined d a b s t e accepted =
+    let fits = not-many (a + b) (length (s ++ t)) accepted in
+    let long = length-append s t in
+    let first-may : tooMany a (length s) ≡ false = may a (length s) (omega arith) (omega arith) in
+    let then-may : tooMany b (length t) ≡ false = may b (length t) (omega arith) (omega arith) in
+    let first : afterPlay d a (length s) ≡ afterClocks a d = sym (accepted-play d a s first-may .1) in
+    let empty : drop a s ≡ [] = rw (← e) (drop-length s) in
+    let behind : drop (a + b) (s ++ t) ≡ drop b t = rw (← e) (drop-append-add s t b) in (
+      rw first (sym (accepted-play (afterClocks a d) b t then-may .1) ∙ sym (after-split a b d) ∙ accepted-play d (a + b) (s ++ t) accepted .1),
+      rw (first, lent-played d a s first-may, lent-played (afterClocks a d) b t then-may, lent-played d (a + b) (s ++ t) accepted, empty, behind, append-nil (levelsOf a d), levels-split a b d)
+          (sym (append-assoc (levelsOf a d) (levelsOf b (afterClocks a d)) (drop b t))),
+    )
+
+-- a record whose parts are kept is as its kept form
+kept-parts : (p : ℕ) (h c f : Pair) → p < period → keptPair h ≡ h → keptPair c ≡ c → keptPair f ≡ f → kept (dacOf p h c f) ≡ dacOf p h c f
+kept-parts p h c f small eh ec ef = let e : p % period ≡ p = omega arith in λ i. dacOf (e i) (eh i) (ec i) (ef i)
+
+module _ (d : Dac) where
+  kept-kept : kept (kept d) ≡ kept d
+  kept-kept = kept-parts _ _ _ _ (omega arith) (keptPair-kept (d .held)) (keptPair-kept (d .completed)) (keptPair-kept (d .in_force))
+
+  clocked-kept : kept (clocked (kept d)) ≡ clocked (kept d)
+  unfolding clocked
+  clocked-kept = kept-parts _ _ _ _ (omega arith) (keptPair-kept (d .held)) (keptPair-kept (d .completed)) (playing-kept d)
+
+  levels-kept : (c : ℕ) → levelsOf c (kept d) ≡ levelsOf c d
+  unfolding levelsOf
+  levels-kept zero = refl
+  levels-kept (suc c) = ap (λ (k : Dac). nextLevel k ∷ levelsOf c (clocked k)) kept-kept
+
+  after-kept : (c : ℕ) → afterClocks (suc c) (kept d) ≡ afterClocks (suc c) d
+  unfolding afterClocks
+  after-kept c = ap (λ (k : Dac). afterClocks c (clocked k)) kept-kept
+
+stays-kept : (c : ℕ) (d : Dac) → kept (afterClocks (suc c) d) ≡ afterClocks (suc c) d
+unfolding afterClocks
+stays-kept zero d = clocked-kept d
+stays-kept (suc c) d = stays-kept c (clocked (kept d))
+
+pub keeps : Kept
+keeps d byte c =
+    let low = pair-kept (pair (keptHalf (d .held .coarse)) (keptHalf byte)) (omega arith) (omega arith) in
+    let made = pair-kept (pair (keptHalf byte) (keptHalf (d .held .fine))) (omega arith) (omega arith) in
+    let done = keptPair-kept (d .completed) in
+    let force = keptPair-kept (d .in_force) in
+    let low-kept = kept-parts (d .position % period) _ _ _ (omega arith) low done force in
+    let high-kept = kept-parts (d .position % period) _ _ _ (omega arith) made made force in (
+      ap (λ (k : Dac). dacOf (k .position) (pair (k .held .coarse) (keptHalf byte)) (k .completed) (k .in_force)) (kept-kept d),
+      low-kept,
+      ap (λ (k : Dac). dacOf (k .position) (pair (keptHalf byte) (k .held .fine)) (pair (keptHalf byte) (k .held .fine)) (k .in_force)) (kept-kept d),
+      high-kept,
+      levels-kept d c,
+      after-kept d c,
+      stays-kept c d,
+    )

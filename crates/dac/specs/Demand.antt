@@ -1,0 +1,146 @@
+-- Demand 3, in words that never look into the running record: what a host does, what then happens clock by clock, and what is asked of every
+-- period that is played to its end. The record goes through `step` alone, whose cases are what the promises of the crate's functions cite.
+-- Assumes nothing.
+use Prim.Native.Nat.{ℕ, suc, _+_, _-_, _*_, _%_, _^_, _<_, _≤_}
+use mathlib.Core.Path.{_≡_}
+use mathlib.Core.Bool.{Bool, true, false}
+use mathlib.Core.List.{List, [], _∷_, _++_, reverse}
+use lib.Dec.{eqb}
+use lib.ListN.{length, take, drop, replicate}
+use Rattle.laws.specs.Pick.{pick}
+use Rattle.dac.specs.declared.Pair.{Pair}
+use Rattle.dac.specs.declared.Dac.{Dac}
+use Rattle.dac.specs.Wave.{period, pair, total}
+use Rattle.dac.specs.Steps.{keptHalf, afterReset, lowWritten, highWritten}
+use Rattle.dac.specs.Play.{tooMany, afterPlay, levelsPlayed}
+
+-- What a host does with its one running record: writes of a byte to either register, plays of so many clocks into so many bytes lent, resets.
+pub data Event : Type 0 where
+  low high : ℕ → Event
+  play : ℕ → ℕ → Event
+  reset : Event
+
+unfoldable pub step : Event → Dac → Dac
+step (low byte) d = lowWritten d byte
+step (high byte) d = highWritten d byte
+step (play clocks room) d = afterPlay d clocks room
+step reset d = afterReset
+
+-- the levels that one event puts out
+unfoldable pub puts : Event → Dac → List ℕ
+puts (low byte) d = []
+puts (high byte) d = []
+puts (play clocks room) d = levelsPlayed d clocks room
+puts reset d = []
+
+-- the record after a sequence of events, and all the levels that it puts out, in time's order
+unfoldable pub run : List Event → Dac → Dac
+run [] d = d
+run (e ∷ es) d = run es (step e d)
+
+unfoldable pub output : List Event → Dac → List ℕ
+output [] d = []
+output (e ∷ es) d = puts e d ++ output es (step e d)
+
+-- The same sequence, a moment for each write, each reset and each clock. A refused play is no moment.
+pub data Moment : Type 0 where
+  wroteLow wroteHigh : ℕ → Moment
+  clock cleared : Moment
+
+unfoldable pub momentsOf : Event → List Moment
+momentsOf (low byte) = wroteLow byte ∷ []
+momentsOf (high byte) = wroteHigh byte ∷ []
+momentsOf (play clocks room) = pick (tooMany clocks room) [] (replicate clocks clock)
+momentsOf reset = cleared ∷ []
+
+unfoldable pub moments : List Event → List Moment
+moments [] = []
+moments (e ∷ es) = momentsOf e ++ moments es
+
+-- A history is a list of moments, the latest first.
+abbrev pub history : List Event → List Moment
+history es = reverse (moments es)
+
+-- the low half last written in it since its last reset, or 0
+unfoldable pub lastLow : List Moment → ℕ
+lastLow [] = 0
+lastLow (wroteLow byte ∷ h) = keptHalf byte
+lastLow (wroteHigh byte ∷ h) = lastLow h
+lastLow (clock ∷ h) = lastLow h
+lastLow (cleared ∷ h) = 0
+
+-- the last pair completed since the last reset, or two halves of 0
+unfoldable pub lastPair : List Moment → Pair
+lastPair [] = pair 0 0
+lastPair (wroteLow byte ∷ h) = lastPair h
+lastPair (wroteHigh byte ∷ h) = pair (keptHalf byte) (lastLow h)
+lastPair (clock ∷ h) = lastPair h
+lastPair (cleared ∷ h) = pair 0 0
+
+-- the clocks since the last reset
+unfoldable pub since : List Moment → ℕ
+since [] = 0
+since (wroteLow byte ∷ h) = since h
+since (wroteHigh byte ∷ h) = since h
+since (clock ∷ h) = suc (since h)
+since (cleared ∷ h) = 0
+
+-- all clocks, of a history or of a stretch of moments; and whether the stretch has no reset
+unfoldable pub clocks : List Moment → ℕ
+clocks [] = 0
+clocks (wroteLow byte ∷ ms) = clocks ms
+clocks (wroteHigh byte ∷ ms) = clocks ms
+clocks (clock ∷ ms) = suc (clocks ms)
+clocks (cleared ∷ ms) = clocks ms
+
+unfoldable pub unreset : List Moment → Bool
+unreset [] = true
+unreset (wroteLow byte ∷ ms) = unreset ms
+unreset (wroteHigh byte ∷ ms) = unreset ms
+unreset (clock ∷ ms) = unreset ms
+unreset (cleared ∷ ms) = false
+
+-- A period of the sequence es, played to its end: h is the history before its first clock, p what followed that clock up to the period's last,
+-- in time's order, and rest what came later. Where plays begin and end is not said: they may cross the period's ends as they like.
+pub record Period (es : List Event) (h p rest : List Moment) : Type 0 where
+  pub whole : moments es ≡ reverse h ++ (clock ∷ (p ++ rest))
+  pub starts : since h % period ≡ 0
+  pub unbroken : unreset p ≡ true
+  pub ended : clocks (clock ∷ p) ≡ period
+
+-- the levels of a period, found in all that the sequence put out from reset
+abbrev pub heard : List Event → List Moment → List ℕ
+heard es h = take period (drop (clocks h) (output es afterReset))
+
+unfoldable pub highs : List ℕ → ℕ
+highs [] = 0
+highs (b ∷ bs) = pick (eqb b 1) 1 0 + highs bs
+
+-- run j of r sub-periods, counted from the period's start
+abbrev pub runOf : ℕ → ℕ → List ℕ → List ℕ
+runOf r j w = take (128 * r) (drop (128 * (r * j)) w)
+
+-- What is asked of a period's levels w, t being T: t of them are high; and in every run of r = 1, 2, 4, .. 64 sub-periods 128 times the high
+-- clocks differ from r times t by less than 128.
+pub record Shares (t : ℕ) (w : List ℕ) : Type 0 where
+  pub long : length w ≡ period
+  pub exact : highs w ≡ t
+  pub below : (k j : ℕ) → k < 7 → j < 2 ^ (7 - k) → 128 * highs (runOf (2 ^ k) j w) < 2 ^ k * t + 128
+  pub above : (k j : ℕ) → k < 7 → j < 2 ^ (7 - k) → 2 ^ k * t < 128 * highs (runOf (2 ^ k) j w) + 128
+
+abbrev pub Demand3 : Type 0
+Demand3 = (es : List Event) (h p rest : List Moment) → Period es h p rest → Shares (total (lastPair h)) (heard es h)
+
+-- No write during a period alters it: two periods, of any two sequences and with anything but a reset during either, have the same levels
+-- where the last pairs completed before their first clocks are the same.
+abbrev pub Unaltered : Type 0
+Unaltered =
+    (es : List Event) (h p rest : List Moment) → Period es h p rest
+    → (es′ : List Event) (h′ p′ rest′ : List Moment) → Period es′ h′ p′ rest′
+    → lastPair h ≡ lastPair h′ → heard es h ≡ heard es′ h′
+
+-- Such periods there are: where a sequence ends at a period's start, a play of the whole period is one.
+abbrev pub Playable : Type 0
+Playable =
+    (es : List Event) (room : ℕ) → period ≤ room → since (history es) % period ≡ 0
+    → Period (es ++ (play period room ∷ [])) (history es) (replicate (period - 1) clock) []

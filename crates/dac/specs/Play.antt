@@ -1,0 +1,41 @@
+-- A play: the clocks asked for, the bytes lent, and number 14 of document 01's table.
+-- Assumes nothing.
+use Prim.Native.Nat.{ℕ}
+use mathlib.Core.Bool.{Bool, _||_}
+use mathlib.Core.List.{List, [], _++_}
+use lib.Dec.{ltb}
+use lib.ListN.{length, drop}
+use Rattle.laws.specs.Pick.{pick}
+use Rattle.laws.specs.Said.{Said, accepted, refused}
+use Rattle.dac.specs.declared.Dac.{Dac}
+use Rattle.dac.specs.declared.Played.{Played}
+use Rattle.dac.specs.declared.Played.the-variants.{All, TooMany}
+use Rattle.dac.specs.Wave.{period}
+use Rattle.dac.specs.Steps.{afterClocks, levelsOf}
+
+-- more clocks than a period has, or than bytes are lent
+abbrev pub tooMany : ℕ → ℕ → Bool
+tooMany clocks room = ltb period clocks || ltb room clocks
+
+-- what a play answers
+unfoldable pub answerOf : ℕ → ℕ → Said
+answerOf clocks room = pick (tooMany clocks room) (refused 14 0) (accepted 0)
+
+-- the record after a play, and the levels that it puts out: a refused one leaves the record as handed over and puts out none
+unfoldable pub afterPlay : Dac → ℕ → ℕ → Dac
+afterPlay d clocks room = pick (tooMany clocks room) d (afterClocks clocks d)
+
+unfoldable pub levelsPlayed : Dac → ℕ → ℕ → List ℕ
+levelsPlayed d clocks room = pick (tooMany clocks room) [] (levelsOf clocks d)
+
+-- The levels stand in the first bytes lent; later bytes stay.
+abbrev pub over : List ℕ → List ℕ → List ℕ
+over levels lent = levels ++ drop (length levels) lent
+
+unfoldable pub lentAfter : Dac → ℕ → List ℕ → List ℕ
+lentAfter d clocks lent = over (levelsPlayed d clocks (length lent)) lent
+
+-- document 01's number, place and value for each answer
+abbrev pub said : Played → Said
+said All = accepted 0
+said TooMany = refused 14 0

@@ -1,0 +1,49 @@
+-- What else is proved of the account. The proofs are in proofs/Proved.antt, those of the last two in proofs/Stream.antt.
+-- Assumes nothing.
+use Prim.Native.Nat.{ℕ, suc, _+_, _-_, _%_, _<_, _≤_}
+use mathlib.Core.Path.{_≡_}
+use mathlib.Core.List.{List, [], _∷_, _++_}
+use mathlib.Core.Bool.{false}
+use lib.Count.{trailingZeros}
+use lib.ListN.{length, replicate}
+use Rattle.dac.specs.declared.Pair.{Pair}
+use Rattle.dac.specs.declared.Dac.{Dac}
+use Rattle.dac.specs.Wave.{period, bit, added, level}
+use Rattle.dac.specs.Steps.{keptPair, kept, afterReset, lowWritten, highWritten, afterClocks, levelsOf}
+use Rattle.dac.specs.Play.{tooMany, afterPlay, lentAfter}
+use Rattle.dac.specs.Demand.{Event, play, run, clock, history, since, Period}
+
+-- Fine bit b serves exactly the sub-periods from 1 to 127 that end in 6 - b zero bits; sub-period 0 gets nothing.
+abbrev pub Serves : Type 0
+Serves =
+    (fine : ℕ) → (added fine 0 ≡ 0) × ((b n : ℕ) → b ≤ 6 → 0 < n → n < 128 → trailingZeros 7 n ≡ 6 - b → added fine n ≡ bit fine b)
+
+-- Two pairs are the same only if both halves are: pairs that give the same level at every position agree in both.
+abbrev pub BothHalves : Type 0
+BothHalves =
+    (p q : Pair) → keptPair p ≡ p → keptPair q ≡ q → ((a : ℕ) → a < period → level p a ≡ level q a) → (p .coarse ≡ q .coarse) × (p .fine ≡ q .fine)
+
+-- Playing a clocks and then b gives what one play of a + b gives, where that many may be played: the record, and the bytes lent, first s and then t.
+abbrev pub Joined : Type 0
+Joined =
+    (d : Dac) (a b : ℕ) (s t : List ℕ) → length s ≡ a → tooMany (a + b) (length (s ++ t)) ≡ false
+    → (afterPlay (afterPlay d a (length s)) b (length t) ≡ afterPlay d (a + b) (length (s ++ t)))
+    × (lentAfter d a s ++ lentAfter (afterPlay d a (length s)) b t ≡ lentAfter d (a + b) (s ++ t))
+
+-- A record that the host made up is used by its kept form, and a write or a clock leaves kept values only.
+abbrev pub Kept : Type 0
+Kept =
+    (d : Dac) (byte c : ℕ)
+    → (lowWritten (kept d) byte ≡ lowWritten d byte) × (kept (lowWritten d byte) ≡ lowWritten d byte)
+    × (highWritten (kept d) byte ≡ highWritten d byte) × (kept (highWritten d byte) ≡ highWritten d byte)
+    × (levelsOf c (kept d) ≡ levelsOf c d) × (afterClocks (suc c) (kept d) ≡ afterClocks (suc c) d) × (kept (afterClocks (suc c) d) ≡ afterClocks (suc c) d)
+
+-- The position that the record has after a sequence from reset is the clocks since the last reset, less whole periods.
+abbrev pub Placed : Type 0
+Placed = (es : List Event) → run es afterReset .position ≡ since (history es) % period
+
+-- So after every sequence from reset that ends at position 0 there is a period of demand 3: a play of the whole of it.
+abbrev pub Reached : Type 0
+Reached =
+    (es : List Event) (room : ℕ) → period ≤ room → run es afterReset .position ≡ 0
+    → Period (es ++ (play period room ∷ [])) (history es) (replicate (period - 1) clock) []

@@ -1,0 +1,36 @@
+-- What a pair of halves asks for, and the level that it gives at each position of a period: document 01, 'Pulses', second paragraph.
+-- A period is 16,384 positions, 128 sub-periods of 128 clocks each. A sub-period starts high for as many clocks as the coarse half says,
+-- or for one more if the fine half adds one to it, and is low from there on.
+-- Assumes nothing.
+use Prim.Native.Nat.{ℕ, _+_, _-_, _*_, _/_, _%_, _^_}
+use lib.Dec.{ltb, eqb}
+use lib.Count.{trailingZeros}
+use Rattle.laws.specs.Pick.{pick}
+use Rattle.dac.specs.declared.Pair.{Pair}
+
+-- in clocks
+abbrev pub period : ℕ
+period = 16384
+
+abbrev pub subPeriod : ℕ
+subPeriod = 128
+
+abbrev pub pair : ℕ → ℕ → Pair
+pair c f = record { coarse = c; fine = f }
+
+-- T: how many clocks of a period the pair asks for
+abbrev pub total : Pair → ℕ
+total q = 128 * q .coarse + q .fine
+
+-- bit b of the number x
+abbrev pub bit : ℕ → ℕ → ℕ
+bit x b = x / 2 ^ b % 2
+
+-- The clocks, one or none, that a fine half adds to sub-period n. A sub-period's number has 7 bits. One that ends in z zero bits is served
+-- by fine bit 6 - z; sub-period 0 is served by none.
+unfoldable pub added : ℕ → ℕ → ℕ
+added fine n = pick (eqb n 0) 0 (bit fine (6 - trailingZeros 7 n))
+
+-- The level at a position, 1 for high: position p is clock p % 128 of sub-period p / 128.
+unfoldable pub level : Pair → ℕ → ℕ
+level q p = pick (ltb (p % subPeriod) (q .coarse + added (q .fine) (p / subPeriod))) 1 0

@@ -1,0 +1,248 @@
+// The 14-bit DAC: its running record, the writes to its two registers, and plays, all by value. Every record is taken, also one that no call
+// made; a play of no clocks and a refused play give it back as it came, every other call gives back kept values only.
+ghost use mathlib.Core.Path.{_≡_};
+ghost use Prim.Native.Nat.{_+_, _-_, _<_, _≤_, min};
+ghost use lib.ListN.{length, replicate};
+ghost use Rattle.dac.specs.Wave.{period, added as addedOf};
+ghost use Rattle.dac.specs.Steps.{keptPair, kept as keptOf, afterReset, lowWritten, highWritten, playing as playingOf, afterClocks, levelsOf};
+ghost use Rattle.dac.specs.Play.{answerOf, afterPlay, lentAfter, over, said};
+ghost use Rattle.dac.specs.Stretch.{wave, pulse};
+
+// In clocks.
+const PERIOD: usize = 16384;
+
+const SUB_PERIOD: usize = 128;
+
+// A register keeps 7 bits, so a half is below this.
+const HALF: u8 = 128;
+
+#[repr(C)]
+pub struct Pair {
+    pub coarse: u8,
+    pub fine: u8,
+}
+
+#[repr(C)]
+pub struct Dac {
+    // Clocks played of the period under way.
+    pub position: u16,
+    // What the high and the low register keep.
+    pub held: Pair,
+    // The latest completed pair.
+    pub completed: Pair,
+    pub in_force: Pair,
+}
+
+pub enum Played {
+    All,
+    // More clocks than a period has, or than bytes are lent.
+    TooMany,
+}
+
+// The record after a play, and its answer.
+pub struct Outcome {
+    pub after: Dac,
+    pub answer: Played,
+}
+
+// The record after a reset.
+pub fn fresh() -> Dac
+    ensures { λ r. ⌜ r ≡ afterReset ⌝ }
+{
+    Dac {
+        position: 0,
+        held: Pair { coarse: 0, fine: 0 },
+        completed: Pair { coarse: 0, fine: 0 },
+        in_force: Pair { coarse: 0, fine: 0 },
+    }
+}
+
+// Holds a low half.
+pub fn write_low(dac: Dac, byte: u8) -> Dac
+    ensures { λ r. ⌜ r ≡ lowWritten dac byte ⌝ }
+{
+    let mut after = kept(dac);
+    let held = Pair {
+        coarse: after.held.coarse,
+        fine: byte % HALF,
+    };
+    after.held = held;
+    after
+}
+
+// Holds a high half, which completes a pair with the low half held then.
+pub fn write_high(dac: Dac, byte: u8) -> Dac
+    ensures { λ r. ⌜ r ≡ highWritten dac byte ⌝ }
+{
+    let mut after = kept(dac);
+    let pair = Pair {
+        coarse: byte % HALF,
+        fine: after.held.fine,
+    };
+    after.held = pair;
+    after.completed = pair;
+    after
+}
+
+// Plays so many clocks: writes one byte for each, 1 where it is high and 0 where it is low, to the first bytes lent.
+pub fn play(dac: Dac, clocks: u32, levels: &mut [u8]) -> Outcome
+    ensures { λ r. ⌜ (said (r .answer) ≡ answerOf clocks (length (now (levels .entry)))) × (r .after ≡ afterPlay dac clocks (length (now (levels .entry)))) × (now (levels .exit) ≡ lentAfter dac clocks (now (levels .entry))) ⌝ }
+{
+    let count = clocks as usize;
+    if PERIOD < count {
+        return Outcome {
+            after: dac,
+            answer: Played::TooMany,
+        };
+    }
+    if levels.len() < count {
+        return Outcome {
+            after: dac,
+            answer: Played::TooMany,
+        };
+    }
+    let after = run(dac, count, levels);
+    Outcome {
+        after,
+        answer: Played::All,
+    }
+}
+
+// A play that is not refused: what is left of the period under way, and the first clocks of the next.
+fn run(dac: Dac, count: usize, levels: &mut [u8]) -> Dac
+    requires { ⌜ (count ≤ period) × (count ≤ length (now levels)) ⌝ }
+    ensures { λ r. ⌜ (r ≡ afterClocks count dac) × (now (levels .exit) ≡ over (levelsOf count dac) (now (levels .entry))) ⌝ }
+{
+    if count == 0 {
+        return dac;
+    }
+    let mut after = kept(dac);
+    let position = after.position as usize;
+    let left = PERIOD - position;
+    let pair = playing(after);
+    if count <= left {
+        lay(&mut levels[..count], pair, position);
+        after.position = ((position + count) % PERIOD) as u16;
+        after.in_force = pair;
+        return after;
+    }
+    lay(&mut levels[..left], pair, position);
+    let next = after.completed;
+    lay(&mut levels[left..count], next, 0);
+    after.position = (count - left) as u16;
+    after.in_force = next;
+    after
+}
+
+fn kept(dac: Dac) -> Dac
+    ensures { λ r. ⌜ r ≡ keptOf dac ⌝ }
+{
+    let held = kept_pair(dac.held);
+    let completed = kept_pair(dac.completed);
+    let in_force = kept_pair(dac.in_force);
+    Dac {
+        position: (dac.position as usize % PERIOD) as u16,
+        held,
+        completed,
+        in_force,
+    }
+}
+
+fn kept_pair(pair: Pair) -> Pair
+    ensures { λ r. ⌜ r ≡ keptPair pair ⌝ }
+{
+    Pair {
+        coarse: pair.coarse % HALF,
+        fine: pair.fine % HALF,
+    }
+}
+
+// The pair by which the next clock of a kept record is played.
+fn playing(dac: Dac) -> Pair
+    ensures { λ r. ⌜ r ≡ playingOf dac ⌝ }
+{
+    if dac.position == 0 {
+        let completed = dac.completed;
+        return completed;
+    }
+    let in_force = dac.in_force;
+    in_force
+}
+
+// Fills the bytes with the levels from position `from` on that `pair` gives, a sub-period at a time.
+fn lay(levels: &mut [u8], pair: Pair, from: usize)
+    requires { ⌜ from + length (now levels) ≤ period ⌝ }
+    ensures { λ _. ⌜ now (levels .exit) ≡ wave pair from (length (now (levels .entry))) ⌝ }
+{
+    let coarse = pair.coarse as usize;
+    let fine = pair.fine;
+    let mut i = 0;
+    while i < levels.len() {
+        let clock = (from + i) % SUB_PERIOD;
+        let more = added(fine, (from + i) / SUB_PERIOD);
+        let end = least(i + (SUB_PERIOD - clock), levels.len());
+        stretch(&mut levels[i..end], clock, coarse + more as usize);
+        i = end;
+    }
+}
+
+// Fills the bytes with the levels from a clock of a sub-period on: its high clocks, then its low ones.
+fn stretch(levels: &mut [u8], clock: usize, high: usize)
+    ensures { λ _. ⌜ now (levels .exit) ≡ pulse clock high (length (now (levels .entry))) ⌝ }
+{
+    let turn = least(beyond(high, clock), levels.len());
+    fill(&mut levels[..turn], 1);
+    fill(&mut levels[turn..], 0);
+}
+
+// The clock that a fine half adds to sub-period n.
+fn added(fine: u8, n: usize) -> u8
+    requires { ⌜ n < 128 ⌝ }
+    ensures { λ r. ⌜ r ≡ addedOf fine n ⌝ }
+{
+    if n % 2 != 0 {
+        return fine / 64 % 2;
+    }
+    if n % 4 != 0 {
+        return fine / 32 % 2;
+    }
+    if n % 8 != 0 {
+        return fine / 16 % 2;
+    }
+    if n % 16 != 0 {
+        return fine / 8 % 2;
+    }
+    if n % 32 != 0 {
+        return fine / 4 % 2;
+    }
+    if n % 64 != 0 {
+        return fine / 2 % 2;
+    }
+    if n != 0 {
+        return fine % 2;
+    }
+    0
+}
+
+fn fill(bytes: &mut [u8], byte: u8)
+    ensures { λ _. ⌜ now (bytes .exit) ≡ replicate (length (now (bytes .entry))) byte ⌝ }
+{
+    let mut i = 0;
+    while i < bytes.len() {
+        bytes[i] = byte;
+        i += 1;
+    }
+}
+
+fn least(a: usize, b: usize) -> usize
+    ensures { λ r. ⌜ r ≡ min a b ⌝ }
+{
+    if a < b { a } else { b }
+}
+
+// How far a is beyond b, or 0.
+fn beyond(a: usize, b: usize) -> usize
+    ensures { λ r. ⌜ r ≡ a - b ⌝ }
+{
+    if b < a { a - b } else { 0 }
+}

@@ -1,0 +1,77 @@
+// The 14-bit DAC. The host keeps one running record and lends it to every call, which updates it there: each function copies the record, calls
+// the step by value, and stores what comes back.
+ghost use mathlib.Core.Path.{_≡_};
+ghost use lib.ListN.{length};
+ghost use Rattle.dac.specs.Steps.{afterReset, lowWritten, highWritten};
+ghost use Rattle.dac.specs.Play.{answerOf, afterPlay, lentAfter, said};
+ghost use Rattle.dirgeflint.specs.Face.{told};
+use crate::Answer;
+use dac::Dac;
+use dac::Played;
+
+#[no_mangle]
+pub extern "C" fn dirgeflint_dac_reset(running: &mut Dac)
+    ensures { λ _. ⌜ now (running .exit) ≡ afterReset ⌝ }
+{
+    *running = dac::fresh();
+}
+
+#[no_mangle]
+pub extern "C" fn dirgeflint_dac_write_low(running: &mut Dac, byte: u8)
+    ensures { λ _. ⌜ now (running .exit) ≡ lowWritten (now (running .entry)) byte ⌝ }
+{
+    let before = *running;
+    *running = dac::write_low(before, byte);
+}
+
+#[no_mangle]
+pub extern "C" fn dirgeflint_dac_write_high(running: &mut Dac, byte: u8)
+    ensures { λ _. ⌜ now (running .exit) ≡ highWritten (now (running .entry)) byte ⌝ }
+{
+    let before = *running;
+    *running = dac::write_high(before, byte);
+}
+
+// Plays so many clocks, one byte for each, into the first bytes lent: value 0, or number 14.
+#[no_mangle]
+pub extern "C" fn dirgeflint_dac_play(running: &mut Dac, clocks: u32, levels: &mut [u8]) -> Answer
+    ensures { λ r. ⌜ (told r ≡ answerOf clocks (length (now (levels .entry)))) × (now (running .exit) ≡ afterPlay (now (running .entry)) clocks (length (now (levels .entry)))) × (now (levels .exit) ≡ lentAfter (now (running .entry)) clocks (now (levels .entry))) ⌝ }
+{
+    let before = *running;
+    let told = play_told(before, clocks, levels);
+    *running = told.after;
+    told.answer
+}
+
+// The record after a play, and what C is told of it.
+pub struct PlayTold {
+    pub after: Dac,
+    pub answer: Answer,
+}
+
+fn play_told(before: Dac, clocks: u32, levels: &mut [u8]) -> PlayTold
+    ensures { λ r. ⌜ (told (r .answer) ≡ answerOf clocks (length (now (levels .entry)))) × (r .after ≡ afterPlay before clocks (length (now (levels .entry)))) × (now (levels .exit) ≡ lentAfter before clocks (now (levels .entry))) ⌝ }
+{
+    let played = dac::play(before, clocks, levels);
+    let after = played.after;
+    let case = played.answer;
+    let answer = played_answer(case);
+    PlayTold { after, answer }
+}
+
+fn played_answer(played: Played) -> Answer
+    ensures { λ r. ⌜ told r ≡ said played ⌝ }
+{
+    match played {
+        Played::All => Answer {
+            number: 0,
+            place: 0,
+            value: 0,
+        },
+        Played::TooMany => Answer {
+            number: 14,
+            place: 0,
+            value: 0,
+        },
+    }
+}

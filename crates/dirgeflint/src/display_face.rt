@@ -1,0 +1,59 @@
+// The painter.
+ghost use mathlib.Core.Path.{_≡_};
+ghost use lib.ListN.{length};
+ghost use Rattle.display.specs.Painting.{answerOf, leftBy, said};
+ghost use Rattle.dirgeflint.specs.Face.{told};
+use crate::Answer;
+use display::Dots;
+use display::Lines;
+use display::Painted;
+use display::Settings;
+
+// Paints the first `width` dots of a line, one byte for each: 0 for video, else 8 and the colour. Value 0, or numbers 1 to 6.
+#[no_mangle]
+pub extern "C" fn dirgeflint_paint(
+    words: &[u16],
+    font: &[u16],
+    settings: Settings,
+    frame: u32,
+    line: u32,
+    width: u32,
+    dots: &mut [u8],
+) -> Answer
+    ensures { λ r. ⌜ (told r ≡ answerOf (now (words .entry)) (now (font .entry)) settings (record { 0 = line }) (record { 0 = width }) (length (now (dots .entry)))) × (now (dots .exit) ≡ leftBy (now (words .entry)) (now (font .entry)) settings frame (record { 0 = line }) (record { 0 = width }) (now (dots .entry))) ⌝ }
+{
+    let painted = display::paint(
+        words,
+        font,
+        settings,
+        frame,
+        Lines(line as usize),
+        Dots(width as usize),
+        dots,
+    );
+    painted_answer(painted)
+}
+
+fn painted_answer(painted: Painted) -> Answer
+    ensures { λ r. ⌜ told r ≡ said painted ⌝ }
+{
+    Answer {
+        number: painted_number(painted),
+        place: 0,
+        value: 0,
+    }
+}
+
+fn painted_number(painted: Painted) -> u32
+    ensures { λ r. ⌜ r ≡ said painted .number ⌝ }
+{
+    match painted {
+        Painted::Done => 0,
+        Painted::BadSetting => 1,
+        Painted::ReservedRatio => 2,
+        Painted::BadWords => 3,
+        Painted::BadFont => 4,
+        Painted::OffScreen => 5,
+        Painted::NoRoom => 6,
+    }
+}

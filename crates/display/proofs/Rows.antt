@@ -1,0 +1,91 @@
+-- A row above the line shows nothing on it: the words up to its return may be passed over. And the loop that looks for the return.
+-- Assumes nothing.
+use mathlib.Core.Path.{_≡_, refl, sym, ap, _∙_}
+use mathlib.Core.Bool.{Bool, true, false}
+use mathlib.Core.List.{List, [], _∷_, _++_}
+use Prim.Native.Nat.{ℕ, zero, suc, _+_, _*_, _<_, _≤_}
+use native.Mathlib.Numerals.{add-one}
+use native.Mathlib.Omega.{arith}
+use lib.ListN.{length, drop, getD, drop-of-length-le}
+use lib.Seq.{drop-cons}
+use Rattle.laws.specs.Pick.{pick}
+use Rattle.laws.specs.Lines.{lastShown}
+use Rattle.laws.proofs.Holders.{last-skip}
+use Rattle.laws.proofs.Placing.{cell-above}
+use Rattle.display.specs.declared.Dots.{Dots}
+use Rattle.display.specs.declared.Lines.{Lines}
+use Rattle.display.specs.declared.View.{View}
+use Rattle.display.specs.declared.Pen.{Pen}
+use Rattle.display.specs.declared.Kind.{Kind}
+use Rattle.display.specs.declared.Kind.the-variants.{Character, Space, Return, End}
+use Rattle.display.specs.declared.RowEnd.{RowEnd}
+use Rattle.display.specs.declared.RowEnd.the-variants.{Over, Next}
+use Rattle.display.specs.Words.{kindOf}
+use Rattle.display.specs.Cells.{glyph, blank, kindCell, rightOf, belowRow, rowPen, afterWord, goesOn, cellsFrom}
+use Rattle.display.specs.Picture.{has, cellDot}
+use Rattle.display.specs.Steps.{painted, later, endAt, rowEnd}
+
+module _ (font : List ℕ) (v : View) (left : Dots) (y : Lines) (size k old : ℕ) where
+  -- dot k as the words after the row's end make it
+  abbrev pub resumed : List ℕ → RowEnd → ℕ
+  resumed ws Over = old
+  resumed ws (Next read next spacing back) = painted font v (cellsFrom left (drop read ws) (rowPen left (belowRow y size spacing) next back)) k old
+
+  resumed-later : (w : ℕ) (ws : List ℕ) (r : RowEnd) → resumed ws r ≡ resumed (w ∷ ws) (later r)
+  resumed-later w ws Over = refl
+  resumed-later w ws (Next read next spacing back) = refl
+
+  passed-kind : (kd : Kind) (w : ℕ) (ws : List ℕ) (x : Dots) (back : ℕ) → y .0 + 18 * size ≤ v .line .0
+      → ((x′ : Dots) (back′ : ℕ) → painted font v (cellsFrom left ws (record { x = x′; y = y; size = size; background = back′ })) k old ≡ resumed ws (rowEnd ws back′))
+      → painted font v (kindCell x y size back kd ++ pick (goesOn kd) (cellsFrom left ws (afterWord left kd (record { x = x; y = y; size = size; background = back }))) []) k old
+      ≡ resumed (w ∷ ws) (endAt kd back (λ b. rowEnd ws b))
+  unfolding kindCell afterWord lastShown
+  passed-kind (Character colour code blink) w ws x back above rest =
+      last-skip (has v k) (cellDot font v k) (record { left = x; top = y; size = size; background = back; shows = glyph colour code blink })
+      (cellsFrom left ws (record { x = record { 0 = x .0 + 12 * size }; y = y; size = size; background = back })) old
+      (cell-above 12 18 (v .line .0) k (x .0) (y .0) size above)
+      ∙ rest (record { 0 = x .0 + 12 * size }) back
+      ∙ resumed-later w ws (rowEnd ws back)
+  passed-kind (Space own) w ws x back above rest =
+      last-skip (has v k) (cellDot font v k) (record { left = x; top = y; size = size; background = own; shows = blank })
+      (cellsFrom left ws (record { x = record { 0 = x .0 + 12 * size }; y = y; size = size; background = own })) old
+      (cell-above 12 18 (v .line .0) k (x .0) (y .0) size above)
+      ∙ rest (record { 0 = x .0 + 12 * size }) own
+      ∙ resumed-later w ws (rowEnd ws own)
+  passed-kind (Return next spacing) w ws x back above rest = refl
+  passed-kind End w ws x back above rest = refl
+
+  -- a row above the line is passed over
+  pub passed : (ws : List ℕ) (x : Dots) (back : ℕ) → y .0 + 18 * size ≤ v .line .0
+      → painted font v (cellsFrom left ws (record { x = x; y = y; size = size; background = back })) k old ≡ resumed ws (rowEnd ws back)
+  unfolding cellsFrom rowEnd lastShown
+  passed [] x back above = refl
+  passed (w ∷ ws) x back above = passed-kind (kindOf w) w ws x back above (λ x′ back′. passed ws x′ back′ above)
+
+-- the end of a row, so many words further
+abbrev pub laterBy : ℕ → RowEnd → RowEnd
+laterBy i Over = Over
+laterBy i (Next read next spacing back) = Next (i + read) next spacing back
+
+pub later-none : (r : RowEnd) → laterBy 0 r ≡ r
+later-none Over = refl
+later-none (Next read next spacing back) = ap (λ (n : ℕ). Next n next spacing back) (omega arith)
+
+later-one : (i : ℕ) (r : RowEnd) → laterBy i (later r) ≡ laterBy (i + 1) r
+later-one i Over = refl
+later-one i (Next read next spacing back) = ap (λ (n : ℕ). Next n next spacing back) (omega arith)
+
+module _ (words : List ℕ) (i back : ℕ) where
+  -- no word is left
+  pub end-over : length words ≤ i → laterBy i (rowEnd (drop i words) back) ≡ Over
+  unfolding rowEnd
+  end-over le = rw (drop-of-length-le words le)
+
+  -- the next word, by its kind
+  pub end-step : (kd : Kind) → i < length words → kindOf (getD words i 0) ≡ kd → laterBy i (rowEnd (drop i words) back) ≡ laterBy i (endAt kd back (λ b. rowEnd (drop (i + 1) words) b))
+  unfolding rowEnd
+  end-step kd lt e = rw (drop-cons words i 0 lt) (simp (e, add-one))
+
+  pub end-goes : (kd : Kind) (b : ℕ) → i < length words → kindOf (getD words i 0) ≡ kd → endAt kd back (λ b. rowEnd (drop (i + 1) words) b) ≡ later (rowEnd (drop (i + 1) words) b)
+      → laterBy (i + 1) (rowEnd (drop (i + 1) words) b) ≡ laterBy i (rowEnd (drop i words) back)
+  end-goes kd b lt e f = sym (later-one i (rowEnd (drop (i + 1) words) b)) ∙ ap (λ (r : RowEnd). laterBy i r) (sym f) ∙ sym (end-step kd lt e)

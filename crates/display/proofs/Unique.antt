@@ -1,0 +1,34 @@
+-- No second answer, and no second line, meets the promise of `paint`. Its answer is told by the number that `said` gives it.
+-- Assumes nothing.
+use mathlib.Core.Path.{_≡_, refl, sym, ap, _∙_}
+use mathlib.Core.List.{List}
+use Prim.Native.Nat.{ℕ}
+use lib.Dec.{eqb}
+use Rattle.laws.specs.Pick.{pick}
+use Rattle.laws.proofs.Determined.{Determines, both-say, told-apart}
+use Rattle.display.specs.declared.Painted.{Painted}
+use Rattle.display.specs.declared.Painted.the-variants.{Done, BadSetting, ReservedRatio, BadWords, BadFont, OffScreen, NoRoom}
+use Rattle.display.specs.Painting.{said}
+use Rattle.display.proofs.paint as paint
+
+-- the case of a number
+numbered : ℕ → Painted
+numbered n =
+    pick (eqb n 0) Done (pick (eqb n 1) BadSetting (pick (eqb n 2) ReservedRatio (pick (eqb n 3) BadWords (pick (eqb n 4) BadFont (pick (eqb n 5) OffScreen NoRoom)))))
+
+numbered-said : (r : Painted) → numbered (said r .number) ≡ r
+unfolding numbered
+numbered-said Done = refl
+numbered-said BadSetting = refl
+numbered-said ReservedRatio = refl
+numbered-said BadWords = refl
+numbered-said BadFont = refl
+numbered-said OffScreen = refl
+numbered-said NoRoom = refl
+
+pub said-one : (r r′ : Painted) → said r ≡ said r′ → r ≡ r′
+said-one = told-apart said (λ a. numbered (a .number)) numbered-said
+
+pub paint-unique : Determines paint.ended (λ w. paint.clauses (w .𝓤) (w .H) (w .𝓖 .A) (w .𝓜 .mem) (w .𝓡 .run))
+paint-unique w κs a g g′ r r′ ws ws′ =
+    both-say w (λ p q. (said-one r r′ (p .0 ∙ sym (q .0)), ap (λ (l : List ℕ). (tt, (tt, (tt, (tt, (tt, (tt, (l, tt)))))))) (p .1 ∙ sym (q .1))))

@@ -1,0 +1,18 @@
+-- `display::outside`: each return by the test of the mode.
+-- Assumes nothing.
+use borrow.Author.Tests.{le-leb, lt-leb}
+use borrow.Author.Needs.{needs}
+use Rattle.display.proofs.outside.Statement.{statement}
+use Rattle.display.proofs.outside.Tie as tie
+
+add-result : tie.Need-add-result
+add-result c = search needs
+
+returns : tie.Need-returns
+returns c = simp (le-leb _ _ (c .if1 .taken))
+
+returns-2 : tie.Need-returns-2
+returns-2 c = simp (lt-leb _ _ (c .if1 .left))
+
+pub outside-spec : {M : Type 1} → statement M
+outside-spec = tie.close (tie.spec add-result returns returns-2)

@@ -1,0 +1,5 @@
+pub mod Words
+pub mod Cells
+pub mod Picture
+pub mod Painting
+pub mod Steps

@@ -1,0 +1,528 @@
+// The painter of the on-screen display: one line of dots from display words, font, settings and frame number.
+ghost use mathlib.Core.Path.{_≡_};
+ghost use Prim.Native.Nat.{ℕ, _+_, _*_, _≤_, _<_};
+ghost use lib.ListN.{length, replicate};
+ghost use Rattle.laws.specs.Pick.{both};
+ghost use Rattle.laws.specs.Lines.{overlay, tabulate};
+ghost use Rattle.laws.specs.Placing.{patched};
+ghost use Rattle.display.specs.Words.{kindOf};
+ghost use Rattle.display.specs.Cells.{placedWord, cellOf, rightOf, belowRow, rowPen, cellsFrom, cells};
+ghost use Rattle.display.specs.Picture.{unlitByte, outsideByte, divisorOf, litIn, dotAt};
+ghost use Rattle.display.specs.Painting.{answerOf, leftBy, said, inRange};
+ghost use Rattle.display.specs.Steps.{painted, shownBits, bitByte, stretched, rowEnd, Sound, EndSound, Room};
+
+// Dots are counted in OSD clocks, lines in scan lines; one is never passed for the other.
+pub struct Dots(pub usize);
+
+pub struct Lines(pub usize);
+
+// What a word is.
+pub enum Kind {
+    Character {
+        colour: u8,
+        code: usize,
+        blink: bool,
+    },
+    Space {
+        background: u8,
+    },
+    Return {
+        size: usize,
+        spacing: Lines,
+    },
+    End,
+}
+
+// A word of the decoded screen: where it stands, its row's size, and what it is.
+pub struct Placed {
+    pub x: Dots,
+    pub y: Lines,
+    pub size: usize,
+    pub kind: Kind,
+}
+
+// Where the next word stands, and the background by then.
+pub struct Pen {
+    pub x: Dots,
+    pub y: Lines,
+    pub size: usize,
+    pub background: u8,
+}
+
+// What stays the same over a line: where rows start, the line, the mode, and whether blinking characters are lit.
+pub struct View {
+    pub left: Dots,
+    pub line: Lines,
+    pub mode: u32,
+    pub lit: bool,
+}
+
+// Where a row ends: with the words, or at a return, after so many words.
+pub enum RowEnd {
+    Over,
+    Next {
+        read: usize,
+        size: usize,
+        spacing: Lines,
+        background: u8,
+    },
+}
+
+// What the host sets. Numbers are wide, so that a value out of range is seen and refused.
+#[repr(C)]
+pub struct Settings {
+    pub on: bool,
+    pub mode: u32,
+    pub colour: u32,
+    pub h: u32,
+    pub v: u32,
+    pub ratio: u32,
+    pub frequency: u32,
+}
+
+pub enum Painted {
+    Done,
+    // A setting is outside its range.
+    BadSetting,
+    // Ratio 3.
+    ReservedRatio,
+    // Not 64 words, or one above 1023.
+    BadWords,
+    BadFont,
+    // The line is above 1023 or the width above 1024.
+    OffScreen,
+    // The output is shorter than the width.
+    NoRoom,
+}
+
+const WORDS: usize = 64;
+
+const MOST_WORD: u16 = 1023;
+
+const MOST_LINE: usize = 1023;
+
+const MOST_WIDTH: usize = 1024;
+
+// Dots and lines of a cell at size 1.
+const CELL_COLUMNS: usize = 12;
+
+const CELL_ROWS: usize = 18;
+
+// Paints the first `width` dots of a line to `out`; the bytes after them stay, and all stay where the call is refused.
+pub fn paint(
+    words: &[u16],
+    font: &[u16],
+    settings: Settings,
+    frame: u32,
+    line: Lines,
+    width: Dots,
+    out: &mut [u8],
+) -> Painted
+    ensures { λ r. ⌜ (said r ≡ answerOf (now (words .entry)) (now (font .entry)) settings line width (length (now (out .entry)))) × (now (out .exit) ≡ leftBy (now (words .entry)) (now (font .entry)) settings frame line width (now (out .entry))) ⌝ }
+{
+    let verdict = judged(words, font, settings, line, width, out.len());
+    if let Painted::Done = verdict {
+        let end = width.0;
+        let dots = &mut out[..end];
+        if settings.on {
+            let lit = blink_lit(settings.ratio, settings.frequency, frame);
+            let view = View {
+                left: Dots(4 * settings.h as usize),
+                line: line,
+                mode: settings.mode,
+                lit: lit,
+            };
+            let top = Lines(4 * settings.v as usize);
+            paint_line(words, font, view, top, settings.colour as u8, dots);
+        } else {
+            fill(dots, 0);
+        }
+    }
+    verdict
+}
+
+// The first number of the table that applies, or Done.
+fn judged(
+    words: &[u16],
+    font: &[u16],
+    settings: Settings,
+    line: Lines,
+    width: Dots,
+    room: usize,
+) -> Painted
+    ensures { λ r. ⌜ said r ≡ answerOf (now (words .entry)) (now (font .entry)) settings line width room ⌝ }
+{
+    if !in_range(settings) {
+        return Painted::BadSetting;
+    }
+    if settings.ratio == 3 {
+        return Painted::ReservedRatio;
+    }
+    if words.len() != WORDS {
+        return Painted::BadWords;
+    }
+    if !font::all_within(words, MOST_WORD) {
+        return Painted::BadWords;
+    }
+    if !font::is_font(font) {
+        return Painted::BadFont;
+    }
+    if MOST_LINE < line.0 {
+        return Painted::OffScreen;
+    }
+    if MOST_WIDTH < width.0 {
+        return Painted::OffScreen;
+    }
+    if room < width.0 {
+        return Painted::NoRoom;
+    }
+    Painted::Done
+}
+
+fn in_range(s: Settings) -> bool
+    ensures { λ r. ⌜ r ≡ inRange s ⌝ }
+{
+    if 3 < s.mode {
+        return false;
+    }
+    if 7 < s.colour {
+        return false;
+    }
+    if 63 < s.h {
+        return false;
+    }
+    if 63 < s.v {
+        return false;
+    }
+    if 3 < s.ratio {
+        return false;
+    }
+    s.frequency <= 3
+}
+
+// The line with the display on: all outside, then the cells over it.
+fn paint_line(words: &[u16], font: &[u16], view: View, top: Lines, start: u8, out: &mut [u8])
+    requires { ⌜ (length (now words) ≡ 64) × ((length (now font) ≡ 1116) × ((view .left .0 ≤ 252) × ((top .0 ≤ 252) × (start ≤ 7)))) ⌝ }
+    ensures { λ _. ⌜ now (out .exit) ≡ tabulate (length (now (out .entry))) (dotAt (now (font .entry)) view start (cells (view .left) top start (now (words .entry)))) ⌝ }
+{
+    fill(out, outside(view.mode, start));
+    row_step(words, font, view, top, 1, start, out);
+}
+
+// A row of this size starts at line y with these words. A row above the line is passed over at once, and below the line nothing is left.
+fn row_step(
+    words: &[u16],
+    font: &[u16],
+    view: View,
+    y: Lines,
+    size: usize,
+    background: u8,
+    out: &mut [u8],
+)
+    requires { ⌜ (length (now font) ≡ 1116) × Room view (rowPen (view .left) y size background) (length (now words)) ⌝ }
+    ensures { λ _. ⌜ now (out .exit) ≡ overlay (painted (now (font .entry)) view (cellsFrom (view .left) (now (words .entry)) (rowPen (view .left) y size background))) (now (out .entry)) ⌝ }
+{
+    let line = view.line.0;
+    if line < y.0 {
+        return;
+    }
+    if line < y.0 + CELL_ROWS * size {
+        let left = view.left;
+        cell_step(
+            words,
+            font,
+            view,
+            Pen {
+                x: left,
+                y: y,
+                size: size,
+                background: background,
+            },
+            out,
+        );
+        return;
+    }
+    match row_end(words, background) {
+        RowEnd::Over => {}
+        RowEnd::Next {
+            read,
+            size: next,
+            spacing,
+            background: back,
+        } => {
+            let top = below(y, size, spacing);
+            row_step(&words[read..], font, view, top, next, back, out)
+        }
+    }
+}
+
+// The first of these words stands at the pen, in the row that the line cuts.
+fn cell_step(words: &[u16], font: &[u16], view: View, pen: Pen, out: &mut [u8])
+    requires { ⌜ (length (now font) ≡ 1116) × (Room view pen (length (now words)) × ((pen .y .0 ≤ view .line .0) × (view .line .0 < pen .y .0 + 18 * pen .size))) ⌝ }
+    ensures { λ _. ⌜ now (out .exit) ≡ overlay (painted (now (font .entry)) view (cellsFrom (view .left) (now (words .entry)) pen)) (now (out .entry)) ⌝ }
+{
+    if words.len() == 0 {
+        return;
+    }
+    let cell = place(words[0], pen);
+    draw(cell, pen.background, font, view, out);
+    let kind = cell.kind;
+    let rest = &words[1..];
+    match kind {
+        Kind::End => {}
+        Kind::Return { size, spacing } => {
+            let y = below(cell.y, cell.size, spacing);
+            row_step(rest, font, view, y, size, pen.background, out)
+        }
+        Kind::Space { background } => cell_step(rest, font, view, right(pen, background), out),
+        Kind::Character {
+            colour: _,
+            code: _,
+            blink: _,
+        } => cell_step(rest, font, view, right(pen, pen.background), out),
+    }
+}
+
+// How many words a row takes, with its return, and what follows from them.
+fn row_end(words: &[u16], background: u8) -> RowEnd
+    requires { ⌜ background ≤ 7 ⌝ }
+    ensures { λ r. ⌜ (r ≡ rowEnd (now (words .entry)) background) × EndSound (length (now (words .entry))) r ⌝ }
+{
+    let mut back = background;
+    let mut i = 0;
+    while i < words.len() {
+        let kind = decode(words[i]);
+        i += 1;
+        match kind {
+            Kind::End => {
+                return RowEnd::Over;
+            }
+            Kind::Return { size, spacing } => {
+                return RowEnd::Next {
+                    read: i,
+                    size: size,
+                    spacing: spacing,
+                    background: back,
+                };
+            }
+            Kind::Space { background: own } => {
+                back = own;
+            }
+            Kind::Character {
+                colour: _,
+                code: _,
+                blink: _,
+            } => {}
+        }
+    }
+    RowEnd::Over
+}
+
+// Where the next cell of the row stands, with the background from there on.
+fn right(pen: Pen, background: u8) -> Pen
+    requires { ⌜ (pen .x .0 ≤ 65536) × (pen .size ≤ 4) ⌝ }
+    ensures { λ r. ⌜ r ≡ rightOf pen background ⌝ }
+{
+    let y = pen.y;
+    Pen {
+        x: Dots(pen.x.0 + CELL_COLUMNS * pen.size),
+        y: y,
+        size: pen.size,
+        background: background,
+    }
+}
+
+// Where the next row starts.
+fn below(y: Lines, size: usize, spacing: Lines) -> Lines
+    requires { ⌜ (y .0 ≤ 65536) × ((size ≤ 4) × (spacing .0 ≤ 12)) ⌝ }
+    ensures { λ r. ⌜ r ≡ belowRow y size spacing ⌝ }
+{
+    Lines(y.0 + CELL_ROWS * size + spacing.0)
+}
+
+// A word where the pen is.
+fn place(word: u16, pen: Pen) -> Placed
+    ensures { λ r. ⌜ (r ≡ placedWord word pen) × Sound (r .kind) ⌝ }
+{
+    let kind = decode(word);
+    let x = pen.x;
+    let y = pen.y;
+    Placed {
+        x: x,
+        y: y,
+        size: pen.size,
+        kind: kind,
+    }
+}
+
+fn decode(word: u16) -> Kind
+    ensures { λ r. ⌜ (r ≡ kindOf word) × Sound r ⌝ }
+{
+    let code = word / 16 % 64;
+    match code {
+        63 => {
+            if word % 2 == 1 {
+                Kind::End
+            } else {
+                Kind::Space {
+                    background: (word / 2 % 8) as u8,
+                }
+            }
+        }
+        62 => Kind::Return {
+            size: (word / 4 % 4 + 1) as usize,
+            spacing: Lines((word % 4 * 4) as usize),
+        },
+        _ => Kind::Character {
+            colour: (word / 2 % 8) as u8,
+            code: code as usize,
+            blink: word % 2 == 1,
+        },
+    }
+}
+
+// Paints the cell of a word in the row that the line cuts; `background` is the one before the word.
+fn draw(cell: Placed, background: u8, font: &[u16], view: View, out: &mut [u8])
+    requires { ⌜ (length (now font) ≡ 1116) × (Sound (cell .kind) × ((background ≤ 7) × (((1 ≤ cell .size) × (cell .size ≤ 4)) × ((cell .x .0 ≤ 65536) × ((cell .y .0 ≤ view .line .0) × (view .line .0 < cell .y .0 + 18 * cell .size)))))) ⌝ }
+    ensures { λ _. ⌜ now (out .exit) ≡ overlay (painted (now (font .entry)) view (cellOf cell background)) (now (out .entry)) ⌝ }
+{
+    let kind = cell.kind;
+    let x = cell.x;
+    let y = cell.y;
+    let size = cell.size;
+    match kind {
+        Kind::Character {
+            colour,
+            code,
+            blink,
+        } => {
+            let bits = shown_bits(font, view, y, size, code, blink);
+            let off = unlit(view.mode, background);
+            stretch(out, x, size, bits, 8 + colour, off);
+        }
+        Kind::Space { background: own } => {
+            let off = unlit(view.mode, own);
+            stretch(out, x, size, 0, off, off);
+        }
+        Kind::Return {
+            size: _,
+            spacing: _,
+        } => {}
+        Kind::End => {}
+    }
+}
+
+// The bits of a character's row that the line cuts: none where it is blinked out.
+fn shown_bits(font: &[u16], view: View, y: Lines, size: usize, code: usize, blink: bool) -> u16
+    requires { ⌜ (length (now font) ≡ 1116) × ((code ≤ 61) × ((1 ≤ size) × ((y .0 ≤ view .line .0) × (view .line .0 < y .0 + 18 * size)))) ⌝ }
+    ensures { λ r. ⌜ r ≡ shownBits (now (font .entry)) view y size code blink ⌝ }
+{
+    if blink {
+        if !view.lit {
+            return 0;
+        }
+    }
+    let line = view.line.0;
+    let at = CELL_ROWS * code + (line - y.0) / size;
+    font[at]
+}
+
+// A cell's row of 12 bits over the dots from x on. Each size has its own call, so that a column compiles to one store.
+fn stretch(out: &mut [u8], x: Dots, size: usize, bits: u16, on: u8, off: u8)
+    requires { ⌜ ((1 ≤ size) × (size ≤ 4)) × (x .0 ≤ 65536) ⌝ }
+    ensures { λ _. ⌜ now (out .exit) ≡ overlay (stretched (x .0) (12 * size) size bits on off) (now (out .entry)) ⌝ }
+{
+    match size {
+        1 => stretch_by(out, x, 1, bits, on, off),
+        2 => stretch_by(out, x, 2, bits, on, off),
+        3 => stretch_by(out, x, 3, bits, on, off),
+        _ => stretch_by(out, x, 4, bits, on, off),
+    }
+}
+
+fn stretch_by(out: &mut [u8], x: Dots, size: usize, bits: u16, on: u8, off: u8)
+    requires { ⌜ ((1 ≤ size) × (size ≤ 4)) × (x .0 ≤ 65536) ⌝ }
+    ensures { λ _. ⌜ now (out .exit) ≡ overlay (stretched (x .0) (12 * size) size bits on off) (now (out .entry)) ⌝ }
+{
+    let from = x.0;
+    let mut j = 0;
+    while j < CELL_COLUMNS {
+        span(out, from + j * size, size, bit_byte(bits, j, on, off));
+        j += 1;
+    }
+}
+
+// n dots of one byte from `from` on, cut where the line ends. The loop for dots that all fit has n turns, so that it compiles to one store.
+fn span(out: &mut [u8], from: usize, n: usize, byte: u8)
+    requires { ⌜ (from ≤ 131072) × (n ≤ 4) ⌝ }
+    ensures { λ _. ⌜ now (out .exit) ≡ overlay (patched from n (λ d. byte)) (now (out .entry)) ⌝ }
+{
+    let mut i = 0;
+    if from + n <= out.len() {
+        while i < n {
+            out[from + i] = byte;
+            i += 1;
+        }
+        return;
+    }
+    while from + i < out.len() {
+        out[from + i] = byte;
+        i += 1;
+    }
+}
+
+// Column j of a row of 12 bits, bit 11 leftmost.
+fn bit_byte(bits: u16, j: usize, on: u8, off: u8) -> u8
+    requires { ⌜ j ≤ 11 ⌝ }
+    ensures { λ r. ⌜ r ≡ bitByte bits j on off ⌝ }
+{
+    if (bits >> (11 - j)) % 2 == 1 { on } else { off }
+}
+
+// An unlit dot of a cell, and each dot of a space.
+fn unlit(mode: u32, background: u8) -> u8
+    requires { ⌜ background ≤ 7 ⌝ }
+    ensures { λ r. ⌜ r ≡ unlitByte mode background ⌝ }
+{
+    if mode <= 1 { 0 } else { 8 + background }
+}
+
+// A dot outside every cell.
+fn outside(mode: u32, start: u8) -> u8
+    requires { ⌜ start ≤ 7 ⌝ }
+    ensures { λ r. ⌜ r ≡ outsideByte mode start ⌝ }
+{
+    if mode <= 2 { 0 } else { 8 + start }
+}
+
+fn fill(out: &mut [u8], byte: u8)
+    ensures { λ _. ⌜ now (out .exit) ≡ replicate (length (now (out .entry))) byte ⌝ }
+{
+    let mut i = 0;
+    while i < out.len() {
+        out[i] = byte;
+        i += 1;
+    }
+}
+
+// Whether this frame is in the lit part of a blinking character.
+fn blink_lit(ratio: u32, frequency: u32, frame: u32) -> bool
+    requires { ⌜ (ratio ≤ 2) × (frequency ≤ 3) ⌝ }
+    ensures { λ r. ⌜ r ≡ litIn ratio frequency frame ⌝ }
+{
+    let d = divisor(frequency);
+    let part = 3 - ratio;
+    frame % d < part * d / 4
+}
+
+fn divisor(frequency: u32) -> u32
+    requires { ⌜ frequency ≤ 3 ⌝ }
+    ensures { λ r. ⌜ (r ≡ divisorOf frequency) × ((16 ≤ r) × (r ≤ 128)) ⌝ }
+{
+    match frequency {
+        0 => 16,
+        1 => 32,
+        2 => 64,
+        _ => 128,
+    }
+}

@@ -1,0 +1,38 @@
+-- Lines of dots: a line from what each place shows, a line painted over, and who of several has a place.
+-- Assumes nothing.
+use Prim.Native.Nat.{ℕ, zero, suc, _+_}
+use mathlib.Core.List.{List, [], _∷_}
+use mathlib.Core.Bool.{Bool}
+use Rattle.laws.specs.Pick.{pick}
+
+-- f at b, b + 1, .., so many of them
+unfoldable pub tabulateFrom : (ℕ → ℕ) → ℕ → ℕ → List ℕ
+tabulateFrom f b zero = []
+tabulateFrom f b (suc n) = f b ∷ tabulateFrom f (suc b) n
+
+-- f at 0, 1, .., n - 1
+abbrev pub tabulate : ℕ → (ℕ → ℕ) → List ℕ
+tabulate n f = tabulateFrom f 0 n
+
+-- each dot of a line by its place, counted from b, and by what it was
+unfoldable pub overlayFrom : (ℕ → ℕ → ℕ) → ℕ → List ℕ → List ℕ
+overlayFrom f b [] = []
+overlayFrom f b (a ∷ l) = f b a ∷ overlayFrom f (suc b) l
+
+abbrev pub overlay : (ℕ → ℕ → ℕ) → List ℕ → List ℕ
+overlay f l = overlayFrom f 0 l
+
+-- what the first of the list that has the place shows there; `other` where none has it
+unfoldable pub firstShown : {A : Type 0} → (A → Bool) → (A → ℕ) → List A → ℕ → ℕ
+firstShown has shows [] other = other
+firstShown has shows (c ∷ cs) other = pick (has c) (shows c) (firstShown has shows cs other)
+
+-- what is there after each of the list in turn has painted it over
+unfoldable pub lastShown : {A : Type 0} → (A → Bool) → (A → ℕ) → List A → ℕ → ℕ
+lastShown has shows [] old = old
+lastShown has shows (c ∷ cs) old = lastShown has shows cs (pick (has c) (shows c) old)
+
+-- how many of the list have the place
+unfoldable pub holders : {A : Type 0} → (A → Bool) → List A → ℕ
+holders has [] = 0
+holders has (c ∷ cs) = pick (has c) 1 0 + holders has cs

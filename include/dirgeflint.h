@@ -1,0 +1,137 @@
+/*
+ * Dirgeflint: the on-screen display and pulse outputs of the PCA84C646.
+ *
+ * Every function takes every input and always returns. None allocates, none keeps state of its own, so all may be
+ * called from any thread as long as no two calls share memory that one of them writes.
+ *
+ * Link with libdirgeflint.a (README.md says how it is made).
+ */
+#ifndef DIRGEFLINT_H
+#define DIRGEFLINT_H
+
+#include <stdbool.h>
+#include <stddef.h>
+#include <stdint.h>
+
+#ifdef __cplusplus
+extern "C" {
+#endif
+
+/*
+ * What a call that can refuse answers.
+ *
+ * number  0 if the call was accepted; else the number of the refusal, listed beside each function.
+ *         Where several apply, the one listed first is given.
+ * place   where the fault is, as listed; 0 if nothing is listed, and 0 if the call was accepted.
+ * value   what an accepted call gives; 0 if the call was refused.
+ *
+ * A refused call changes nothing that was lent to it.
+ */
+typedef struct dirgeflint_answer {
+    uint32_t number;
+    uint32_t place;
+    uint32_t value;
+} dirgeflint_answer;
+
+/*
+ * The eight small outputs: the level of a channel at one clock of its period, after byte was written to the channel.
+ *
+ * Channels 0 to 3 keep the low 7 bits of the byte and have a period of 128 clocks; channels 4 to 7 keep 6 bits and
+ * have 64. The output is high for as many clocks from the period's start as the number kept says.
+ *
+ * value   1 for high, 0 for low.
+ * Refuses 15: channel above 7, or t not inside the channel's period.
+ */
+dirgeflint_answer dirgeflint_pulse_level(uint32_t channel, uint8_t byte, uint32_t t);
+
+/*
+ * The 14-bit DAC: a period is 128 sub-periods of 128 clocks. The host keeps one running record and lends it to each call.
+ * Any record is taken: a call uses each half modulo 128 and the position modulo 16,384, and leaves them so.
+ */
+typedef struct dirgeflint_pair {
+    uint8_t coarse; /* high half */
+    uint8_t fine;   /* low half */
+} dirgeflint_pair;
+
+typedef struct dirgeflint_dac {
+    uint16_t position;         /* clocks played of the period under way */
+    dirgeflint_pair held;      /* what the high and the low register keep */
+    dirgeflint_pair completed; /* the latest completed pair */
+    dirgeflint_pair in_force;  /* the pair that is being played */
+} dirgeflint_dac;
+
+/* Makes the record what it is after reset: 0 everywhere. */
+void dirgeflint_dac_reset(dirgeflint_dac *dac);
+
+/* Writes the low register: its 7 low bits are held as the fine half, until a high write takes them into a pair. */
+void dirgeflint_dac_write_low(dirgeflint_dac *dac, uint8_t byte);
+
+/* Writes the high register: its 7 low bits, with the fine half held now, complete a pair. The latest completed pair comes into force when
+ * the first clock of a period is played. */
+void dirgeflint_dac_write_high(dirgeflint_dac *dac, uint8_t byte);
+
+/*
+ * Plays so many clocks: writes a byte for each, 1 for high and 0 for low, to the first bytes of levels, and moves the position on. Later
+ * bytes stay. A play of 0 clocks changes nothing.
+ *
+ * Refuses 14: clocks above 16,384, or above levels_length. The record is then left as it was, made up or not.
+ */
+dirgeflint_answer dirgeflint_dac_play(dirgeflint_dac *dac, uint32_t clocks, uint8_t *levels, size_t levels_length);
+
+/*
+ * The write port of the display: three registers and the 64 words of the display RAM. It goes by value.
+ * Every call uses and gives back the kept bits only, also of a port that the host made up: 6 of the address, 4 of the attribute, 6 of the character
+ * register, 10 of each word.
+ */
+typedef struct dirgeflint_port {
+    uint8_t address;
+    uint8_t attribute;
+    uint8_t character;
+    uint16_t words[64];
+} dirgeflint_port;
+
+/* The port after reset: 0 everywhere. */
+dirgeflint_port dirgeflint_port_fresh(void);
+
+/* The port after a write to the register named. */
+dirgeflint_port dirgeflint_port_write_address(dirgeflint_port port, uint8_t byte);
+dirgeflint_port dirgeflint_port_write_attribute(dirgeflint_port port, uint8_t byte);
+
+/* A write to the character register also stores a word, the code written and the attribute, at the address, and moves the address on by one,
+ * from 63 to 0. */
+dirgeflint_port dirgeflint_port_write_character(dirgeflint_port port, uint8_t byte);
+
+/* What the painter is told beside words and font. Colours are 4 for red plus 2 for green plus 1 for blue. */
+typedef struct dirgeflint_settings {
+    bool on;            /* off: every dot is video */
+    uint32_t mode;      /* 0 to 3 */
+    uint32_t colour;    /* starting background, 0 to 7 */
+    uint32_t h;         /* rows start at dot 4h; 0 to 63 */
+    uint32_t v;         /* the first row starts at line 4v; 0 to 63 */
+    uint32_t ratio;     /* blink: lit for the first 3/4, 1/2 or 1/4 of each D frames, for 0, 1, 2 */
+    uint32_t frequency; /* blink: D is 16, 32, 64 or 128 frames, for 0 to 3 */
+} dirgeflint_settings;
+
+/*
+ * Paints the first width dots of a scan line to the first bytes of dots: 0 for video, else 8 plus the colour. Later bytes stay.
+ *
+ * words   the 64 words of the display RAM, each at most 1023
+ * font    the 62 cells of 18 rows, top row first, each row at most 4095 with the leftmost dot in bit 11: 1,116 rows
+ * frame   any number; blinking goes by its remainder
+ *
+ * Refuses 1: mode, colour, h, v, ratio or frequency outside its range (ratio 3 is in range, and reserved)
+ *         2: ratio 3
+ *         3: not 64 words, or a word above 1023
+ *         4: not 1,116 rows, or a row above 4095
+ *         5: line above 1023 or width above 1024
+ *         6: dots_length below width
+ */
+dirgeflint_answer dirgeflint_paint(const uint16_t *words, size_t words_length, const uint16_t *font, size_t font_length,
+                                   dirgeflint_settings settings, uint32_t frame, uint32_t line, uint32_t width, uint8_t *dots,
+                                   size_t dots_length);
+
+#ifdef __cplusplus
+}
+#endif
+
+#endif

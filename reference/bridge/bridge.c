@@ -1,0 +1,308 @@
+/*
+ * The bridge: serves the library's C face over standard input and output, so that the independent program can call the
+ * archive that hosts link from any processor, through the kit's emulator where that is needed.
+ *
+ * A request is a byte that names the call, then its arguments in the order of the header: a number in as many bytes as
+ * it has, low byte first; a record field by field; a slice as a 32-bit count of elements and the elements. The reply is
+ * a byte of health, then the answer if the call has one, the record if one was lent or is returned, and the elements of
+ * the slice lent for writing. Health 0: nothing outside the memory lent was written, and what was lent for reading is
+ * as it was. Replies are held back until the request '.', which has no reply of its own, so that many calls can be
+ * under way.
+ *
+ * WITH_PULSE, WITH_DAC, WITH_PORT, WITH_PAINT and WITH_HEX say which parts the library has.
+ */
+#include "dirgeflint.h"
+#include <stdio.h>
+#include <stdlib.h>
+#include <string.h>
+
+static void take(void *to, size_t count)
+{
+    if (count != 0 && fread(to, 1, count, stdin) != count)
+        exit(2);
+}
+
+static void give(const void *from, size_t count)
+{
+    if (count != 0 && fwrite(from, 1, count, stdout) != count)
+        exit(3);
+}
+
+static void give_health(bool well)
+{
+    uint8_t byte = well ? 0 : 1;
+    give(&byte, 1);
+}
+
+#if defined(WITH_PULSE) || defined(WITH_DAC) || defined(WITH_PAINT) || defined(WITH_HEX)
+static uint32_t take_number(void)
+{
+    uint32_t value;
+    take(&value, sizeof value);
+    return value;
+}
+
+static void give_answer(dirgeflint_answer answer)
+{
+    give(&answer.number, sizeof answer.number);
+    give(&answer.place, sizeof answer.place);
+    give(&answer.value, sizeof answer.value);
+}
+#endif
+
+#if defined(WITH_PULSE) || defined(WITH_DAC) || defined(WITH_PORT)
+static uint8_t take_byte(void)
+{
+    uint8_t value;
+    take(&value, sizeof value);
+    return value;
+}
+#endif
+
+#if defined(WITH_DAC) || defined(WITH_PAINT) || defined(WITH_HEX)
+enum { MARGIN = 16, LIMIT = 1 << 17, MARK = 0xC3 };
+
+/* Memory to lend, between two margins that are not lent. */
+typedef struct area {
+    uint8_t *whole;
+    size_t size;
+    uint8_t *before; /* what was there before the call */
+} area;
+
+static void *start(const area *a)
+{
+    return a->whole + MARGIN;
+}
+
+static void make(area *a, size_t size)
+{
+    if (a->whole == NULL) {
+        a->whole = malloc(MARGIN + LIMIT + MARGIN);
+        a->before = malloc(LIMIT);
+        if (a->whole == NULL || a->before == NULL)
+            exit(4);
+    }
+    if (size > LIMIT)
+        exit(5);
+    a->size = size;
+    memset(a->whole, MARK, MARGIN);
+    memset(a->whole + MARGIN + size, MARK, MARGIN);
+}
+
+static bool margins_stand(const area *a)
+{
+    for (size_t i = 0; i < MARGIN; i++)
+        if (a->whole[i] != MARK || a->whole[MARGIN + a->size + i] != MARK)
+            return false;
+    return true;
+}
+
+/* A slice lent for writing: returns its number of elements. */
+static size_t take_room(area *a, size_t element)
+{
+    size_t count = take_number();
+    make(a, count * element);
+    take(start(a), a->size);
+    return count;
+}
+#endif
+
+#if defined(WITH_PAINT) || defined(WITH_HEX)
+/* A slice lent for reading: returns its number of elements. */
+static size_t take_slice(area *a, size_t element)
+{
+    size_t count = take_room(a, element);
+    memcpy(a->before, start(a), a->size);
+    return count;
+}
+
+static bool stands(const area *a)
+{
+    return margins_stand(a) && memcmp(a->before, start(a), a->size) == 0;
+}
+#endif
+
+#ifdef WITH_PULSE
+static void pulse_level(void)
+{
+    uint32_t channel = take_number();
+    uint8_t written = take_byte();
+    uint32_t t = take_number();
+    dirgeflint_answer answer = dirgeflint_pulse_level(channel, written, t);
+    give_health(true);
+    give_answer(answer);
+}
+#endif
+
+#ifdef WITH_DAC
+static area record, levels;
+
+static dirgeflint_dac *take_dac(void)
+{
+    dirgeflint_dac *dac;
+    make(&record, sizeof *dac);
+    dac = start(&record);
+    take(&dac->position, sizeof dac->position);
+    dac->held.coarse = take_byte();
+    dac->held.fine = take_byte();
+    dac->completed.coarse = take_byte();
+    dac->completed.fine = take_byte();
+    dac->in_force.coarse = take_byte();
+    dac->in_force.fine = take_byte();
+    return dac;
+}
+
+static void give_dac(const dirgeflint_dac *dac)
+{
+    uint8_t halves[6] = { dac->held.coarse, dac->held.fine, dac->completed.coarse, dac->completed.fine,
+                          dac->in_force.coarse, dac->in_force.fine };
+    give(&dac->position, sizeof dac->position);
+    give(halves, sizeof halves);
+}
+
+static void dac_reset(void)
+{
+    dirgeflint_dac *dac = take_dac();
+    dirgeflint_dac_reset(dac);
+    give_health(margins_stand(&record));
+    give_dac(dac);
+}
+
+static void dac_write(void (*write)(dirgeflint_dac *, uint8_t))
+{
+    dirgeflint_dac *dac = take_dac();
+    write(dac, take_byte());
+    give_health(margins_stand(&record));
+    give_dac(dac);
+}
+
+static void dac_play(void)
+{
+    dirgeflint_dac *dac = take_dac();
+    uint32_t clocks = take_number();
+    size_t length = take_room(&levels, 1);
+    dirgeflint_answer answer = dirgeflint_dac_play(dac, clocks, start(&levels), length);
+    give_health(margins_stand(&record) && margins_stand(&levels));
+    give_answer(answer);
+    give_dac(dac);
+    give(start(&levels), levels.size);
+}
+#endif
+
+#ifdef WITH_PORT
+static void give_port(dirgeflint_port port)
+{
+    give_health(true);
+    give(&port.address, 1);
+    give(&port.attribute, 1);
+    give(&port.character, 1);
+    give(port.words, sizeof port.words);
+}
+
+static void port_write(dirgeflint_port (*write)(dirgeflint_port, uint8_t))
+{
+    dirgeflint_port port;
+    port.address = take_byte();
+    port.attribute = take_byte();
+    port.character = take_byte();
+    take(port.words, sizeof port.words);
+    give_port(write(port, take_byte()));
+}
+#endif
+
+#ifdef WITH_PAINT
+static area words, rows, dots;
+
+static void paint(void)
+{
+    size_t words_length = take_slice(&words, 2);
+    size_t rows_length = take_slice(&rows, 2);
+    dirgeflint_settings settings;
+    settings.on = take_number() != 0;
+    settings.mode = take_number();
+    settings.colour = take_number();
+    settings.h = take_number();
+    settings.v = take_number();
+    settings.ratio = take_number();
+    settings.frequency = take_number();
+    uint32_t frame = take_number();
+    uint32_t line = take_number();
+    uint32_t width = take_number();
+    size_t dots_length = take_room(&dots, 1);
+    dirgeflint_answer answer = dirgeflint_paint(start(&words), words_length, start(&rows), rows_length, settings, frame,
+                                                line, width, start(&dots), dots_length);
+    give_health(stands(&words) && stands(&rows) && margins_stand(&dots));
+    give_answer(answer);
+    give(start(&dots), dots.size);
+}
+#endif
+
+#ifdef WITH_HEX
+static area given, wanted;
+
+static void hex_read(void)
+{
+    size_t text_length = take_slice(&given, 1);
+    size_t image_length = take_room(&wanted, 1);
+    dirgeflint_answer answer = dirgeflint_hex_read(start(&given), text_length, start(&wanted), image_length);
+    give_health(stands(&given) && margins_stand(&wanted));
+    give_answer(answer);
+    give(start(&wanted), wanted.size);
+}
+
+static void hex_write(void)
+{
+    size_t font_length = take_slice(&given, 2);
+    size_t text_length = take_room(&wanted, 1);
+    dirgeflint_answer answer = dirgeflint_hex_write(start(&given), font_length, start(&wanted), text_length);
+    give_health(stands(&given) && margins_stand(&wanted));
+    give_answer(answer);
+    give(start(&wanted), wanted.size);
+}
+
+static void image_to_font(void)
+{
+    size_t image_length = take_slice(&given, 1);
+    size_t font_length = take_room(&wanted, 2);
+    dirgeflint_answer answer = dirgeflint_image_to_font(start(&given), image_length, start(&wanted), font_length);
+    give_health(stands(&given) && margins_stand(&wanted));
+    give_answer(answer);
+    give(start(&wanted), wanted.size);
+}
+#endif
+
+int main(void)
+{
+    setvbuf(stdin, NULL, _IOFBF, 1 << 16);
+    setvbuf(stdout, NULL, _IOFBF, 1 << 16);
+    for (int call; (call = getchar()) != EOF;) {
+        switch (call) {
+        case '.': fflush(stdout); break;
+#ifdef WITH_PULSE
+        case 'p': pulse_level(); break;
+#endif
+#ifdef WITH_DAC
+        case 'r': dac_reset(); break;
+        case 'l': dac_write(dirgeflint_dac_write_low); break;
+        case 'h': dac_write(dirgeflint_dac_write_high); break;
+        case 'y': dac_play(); break;
+#endif
+#ifdef WITH_PORT
+        case 'f': give_port(dirgeflint_port_fresh()); break;
+        case 'a': port_write(dirgeflint_port_write_address); break;
+        case 't': port_write(dirgeflint_port_write_attribute); break;
+        case 'c': port_write(dirgeflint_port_write_character); break;
+#endif
+#ifdef WITH_PAINT
+        case 'P': paint(); break;
+#endif
+#ifdef WITH_HEX
+        case 'R': hex_read(); break;
+        case 'W': hex_write(); break;
+        case 'I': image_to_font(); break;
+#endif
+        default: exit(6);
+        }
+    }
+    return 0;
+}

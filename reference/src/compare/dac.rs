@@ -1,0 +1,323 @@
+//! The DAC: every pair over a whole period first, then sequences of calls drawn at random.
+//!
+//! After every call the answer, the whole running record and the whole room are compared, so that a byte touched past
+//! the played ones shows. Where a record began with a reset, the levels are also counted (demand 3).
+
+use super::rooms::Rooms;
+use super::{run as drive, CaseResult, Difference, Part, Plan};
+use crate::model::share::Watcher;
+use crate::model::Model;
+use crate::parts::{Answer, Dac, Pair, RunningRecord};
+use crate::random::Random;
+
+const PERIOD: usize = 16384;
+const PAIRS: u64 = 128 * 128;
+const SEQUENCES: u64 = 240_000;
+
+#[derive(Clone, Copy, Debug)]
+enum Call {
+    Reset,
+    WriteLow(u8),
+    WriteHigh(u8),
+    Play { clocks: u32, room: usize },
+}
+
+/// One record in each hand, and what was done to them.
+struct Session<'a> {
+    subject: &'a dyn Dac,
+    start: RunningRecord,
+    expected: RunningRecord,
+    got: RunningRecord,
+    calls: Vec<Call>,
+    /// Only from a reset on: demand 3 says nothing of a record the host made up.
+    watcher: Option<Watcher>,
+    comparisons: u64,
+}
+
+impl<'a> Session<'a> {
+    fn new(subject: &'a dyn Dac, start: RunningRecord) -> Self {
+        Session { subject, start, expected: start, got: start, calls: Vec::new(), watcher: None, comparisons: 0 }
+    }
+
+    fn complaint(&self, what: &str) -> String {
+        format!("{what}\n  record at the start {:?}\n  calls {:?}", self.start, self.calls)
+    }
+
+    fn both(&self, what: &str, expected: &dyn std::fmt::Debug, got: &dyn std::fmt::Debug) -> String {
+        self.complaint(&format!("{what} after the last call\n  model   {expected:?}\n  library {got:?}"))
+    }
+
+    fn call(&mut self, call: Call, random: &mut Random) -> Result<(), String> {
+        self.calls.push(call);
+        match call {
+            Call::Reset => {
+                Model.reset(&mut self.expected);
+                self.subject.reset(&mut self.got);
+                self.watcher.get_or_insert_with(Watcher::default).reset();
+            }
+            Call::WriteLow(byte) => {
+                Model.write_low(&mut self.expected, byte);
+                self.subject.write_low(&mut self.got, byte);
+                if let Some(watcher) = &mut self.watcher {
+                    watcher.write_low(byte);
+                }
+            }
+            Call::WriteHigh(byte) => {
+                Model.write_high(&mut self.expected, byte);
+                self.subject.write_high(&mut self.got, byte);
+                if let Some(watcher) = &mut self.watcher {
+                    watcher.write_high(byte);
+                }
+            }
+            Call::Play { clocks, room } => self.play(clocks, room, random)?,
+        }
+        self.comparisons += 1;
+        if self.got != self.expected {
+            return Err(self.both("the records differ", &self.expected, &self.got));
+        }
+        Ok(())
+    }
+
+    fn play(&mut self, clocks: u32, room: usize, random: &mut Random) -> Result<(), String> {
+        let mut rooms = Rooms::of_bytes(room, random);
+        let expected = Model.play(&mut self.expected, clocks, rooms.model());
+        let got = self.subject.play(&mut self.got, clocks, rooms.library());
+        if got != expected {
+            return Err(self.both("the answers differ", &expected, &got));
+        }
+        if let Some(difference) = rooms.difference() {
+            return Err(self.complaint(&format!("the room differs after the last call\n{difference}")));
+        }
+        if expected == Answer::accepted(0) {
+            if let Some(watcher) = &mut self.watcher {
+                let counted = watcher.played(&rooms.model()[..clocks as usize]);
+                counted.map_err(|what| self.complaint(&format!("counting the model's clocks: {what}")))?;
+            }
+        }
+        Ok(())
+    }
+}
+
+/// One pair over one whole period, in one play or cut in two, with the next pair already written.
+fn pair_case(subject: &dyn Dac, number: u64, random: &mut Random) -> CaseResult {
+    let (coarse, fine) = ((number / 128) as u8, (number % 128) as u8);
+    let mut session = Session::new(subject, RunningRecord::default());
+    let cut = if random.one_in(2) { PERIOD } else { random.between(1, PERIOD) };
+    session.call(Call::Reset, random)?;
+    session.call(Call::WriteLow(fine | random.byte() & 128), random)?;
+    session.call(Call::WriteHigh(coarse | random.byte() & 128), random)?;
+    session.call(Call::Play { clocks: cut as u32, room: cut }, random)?;
+    session.call(Call::WriteLow(random.byte()), random)?;
+    session.call(Call::WriteHigh(random.byte()), random)?;
+    session.call(Call::Play { clocks: (PERIOD - cut) as u32, room: PERIOD - cut + 3 }, random)?;
+    session.call(Call::Play { clocks: 2, room: 2 }, random)?;
+    match session.watcher.map(|watcher| watcher.completed_periods()) {
+        Some(1) => Ok(session.comparisons),
+        counted => Err(format!("one whole period should have been counted, not {counted:?}")),
+    }
+}
+
+fn random_pair(random: &mut Random) -> Pair {
+    Pair { coarse: random.byte(), fine: random.byte() }
+}
+
+fn start_record(random: &mut Random) -> RunningRecord {
+    let position = match random.below(6) {
+        0 => 0,
+        1 => random.pick(&[16384, 32768, 49152, 16383, 16385, 32767, 65535]),
+        // Just before a first clock, so that short plays reach it.
+        2 | 3 => random.between(PERIOD - 200, PERIOD) as u16 + random.pick(&[0, 16384, 32768]),
+        _ => random.word(),
+    };
+    let mut record = RunningRecord {
+        position,
+        held: random_pair(random),
+        completed: random_pair(random),
+        in_force: random_pair(random),
+    };
+    if random.one_in(3) {
+        record.held = record.completed;
+    }
+    record
+}
+
+/// How far a play goes. Long ones only where asked for: the model goes clock by clock.
+fn clocks(position: u16, long: bool, random: &mut Random) -> usize {
+    let position = usize::from(position) % PERIOD;
+    let to_sub_period_end = 128 - position % 128;
+    let to_period_end = PERIOD - position;
+    let near = |end: usize, random: &mut Random| (end + random.below(5)).saturating_sub(2);
+    match random.below(if long { 10 } else { 6 }) {
+        0 => random.between(0, 3),
+        1 => near(to_sub_period_end, random),
+        2 if to_period_end < 300 || long => near(to_period_end, random).min(PERIOD),
+        2 | 3 => random.between(0, 40),
+        4 => random.between(0, 200),
+        5 => random.pick(&[1, 7, 127, 128, 129]),
+        6 => PERIOD,
+        7 => PERIOD - random.below(3),
+        8 => to_period_end,
+        _ => random.between(0, PERIOD),
+    }
+}
+
+fn random_call(position: u16, long: bool, random: &mut Random) -> Call {
+    match random.below(20) {
+        0 => Call::Reset,
+        1..=4 => Call::WriteLow(random.byte()),
+        5..=8 => Call::WriteHigh(random.byte()),
+        9 => match random.below(3) {
+            0 => Call::Play { clocks: random.pick(&[16385, 16386, 32768, 65536, 1 << 31, u32::MAX]), room: 20 },
+            1 => {
+                let room = random.between(0, 30);
+                Call::Play { clocks: (room + random.between(1, 3)) as u32, room }
+            }
+            // Above a period although the room would do; a play of the room's whole length would be seen.
+            _ if long => Call::Play { clocks: 16385, room: 16385 + random.below(4) },
+            _ => Call::Play { clocks: 0, room: random.below(3) },
+        },
+        _ => {
+            let clocks = clocks(position, long, random);
+            let spare = if random.one_in(2) { 0 } else { random.between(1, 40) };
+            Call::Play { clocks: clocks as u32, room: clocks + spare }
+        }
+    }
+}
+
+fn sequence_case(subject: &dyn Dac, random: &mut Random) -> CaseResult {
+    let long = random.one_in(50);
+    let calls = if long { random.between(6, 40) } else { random.between(2, 16) };
+    let mut session;
+    if random.one_in(3) {
+        session = Session::new(subject, start_record(random));
+    } else {
+        session = Session::new(subject, RunningRecord::default());
+        session.call(Call::Reset, random)?;
+    }
+    for _ in 0..calls {
+        let call = random_call(session.expected.position, long, random);
+        session.call(call, random)?;
+    }
+    Ok(session.comparisons)
+}
+
+pub fn run(subject: &dyn Dac, plan: &Plan, say: &mut dyn FnMut(String)) -> Result<u64, Difference> {
+    let part = Part {
+        name: "dac",
+        what: "every pair over a period, then random sequences of calls",
+        cases: PAIRS + SEQUENCES,
+        case: &|index, random| match index {
+            0..PAIRS => pair_case(subject, index, random),
+            _ => sequence_case(subject, random),
+        },
+    };
+    drive(&part, plan, say)
+}
+
+#[cfg(test)]
+mod tests {
+    use super::*;
+    use crate::compare::testing::silent;
+    use crate::fast::Fast;
+
+    fn some_sequences(subject: &dyn Dac) -> Result<u64, Difference> {
+        run(subject, &Plan { from: PAIRS, count: Some(3000), ..Plan::default() }, &mut silent)
+    }
+
+    #[test]
+    fn the_fast_one_agrees_with_the_model() {
+        assert!(some_sequences(&Fast).unwrap() > 20_000);
+        let pairs = Plan { from: 3 * 128, count: Some(128), ..Plan::default() };
+        assert_eq!(run(&Fast, &pairs, &mut silent).unwrap(), 128 * 8);
+    }
+
+    /// The model with one mistake in it.
+    enum Mistake {
+        LowReachesTheOutput,
+        SubPeriodZeroServed,
+        LoadsAtTheEnd,
+        TouchesOneByteMore,
+        RawFieldsStay,
+        RefusalReduces,
+        RepeatsItsFirstPlay(std::cell::RefCell<Vec<u8>>),
+        AlwaysRefuses,
+    }
+
+    impl Dac for Mistake {
+        fn reset(&self, record: &mut RunningRecord) {
+            Model.reset(record);
+        }
+
+        fn write_low(&self, record: &mut RunningRecord, byte: u8) {
+            let before = *record;
+            Model.write_low(record, byte);
+            match self {
+                Mistake::LowReachesTheOutput => record.completed.fine = byte % 128,
+                Mistake::RawFieldsStay => record.position = before.position,
+                _ => {}
+            }
+        }
+
+        fn write_high(&self, record: &mut RunningRecord, byte: u8) {
+            Model.write_high(record, byte);
+        }
+
+        fn play(&self, record: &mut RunningRecord, clocks: u32, levels: &mut [u8]) -> Answer {
+            let before = *record;
+            let mut answer = Model.play(record, clocks, levels);
+            let played = clocks as usize;
+            match self {
+                Mistake::SubPeriodZeroServed if answer.number == 0 && before.position == 0 => {
+                    let coarse = usize::from(record.in_force.coarse);
+                    if coarse < played && record.in_force.fine == 127 {
+                        levels[coarse] = 1;
+                    }
+                }
+                Mistake::LoadsAtTheEnd if record.position == 0 && played > 0 && answer.number == 0 => {
+                    record.in_force = record.completed;
+                }
+                Mistake::TouchesOneByteMore if levels.len() > played => levels[played] = 0,
+                Mistake::RefusalReduces if answer.number != 0 => record.position %= 16384,
+                Mistake::RepeatsItsFirstPlay(first) if answer.number == 0 => {
+                    let mut first = first.borrow_mut();
+                    if first.is_empty() {
+                        *first = levels[..played].to_vec();
+                    } else {
+                        let same = played.min(first.len());
+                        levels[..same].copy_from_slice(&first[..same]);
+                    }
+                }
+                Mistake::AlwaysRefuses => answer = Answer::refused(14, 0),
+                _ => {}
+            }
+            answer
+        }
+    }
+
+    #[test]
+    fn every_planted_mistake_is_found() {
+        let mistakes = [
+            Mistake::LowReachesTheOutput,
+            Mistake::LoadsAtTheEnd,
+            Mistake::TouchesOneByteMore,
+            Mistake::RawFieldsStay,
+            Mistake::RefusalReduces,
+            Mistake::RepeatsItsFirstPlay(Default::default()),
+            Mistake::AlwaysRefuses,
+        ];
+        for mistake in mistakes {
+            let difference = some_sequences(&mistake).unwrap_err();
+            assert!(difference.report.contains("calls [") && difference.report.contains("library"));
+        }
+        let last_of_a_coarse_half = Plan { from: 5 * 128 + 120, count: Some(8), ..Plan::default() };
+        assert!(run(&Mistake::SubPeriodZeroServed, &last_of_a_coarse_half, &mut silent).is_err());
+    }
+
+    #[test]
+    fn a_case_can_be_run_again_alone() {
+        let difference = some_sequences(&Mistake::LoadsAtTheEnd).unwrap_err();
+        let again = Plan { from: difference.index, count: Some(1), ..Plan::default() };
+        let seen = run(&Mistake::LoadsAtTheEnd, &again, &mut silent).unwrap_err();
+        assert_eq!(seen.report, difference.report);
+    }
+}

@@ -1,0 +1,411 @@
+//! The hex text and the character image.
+//!
+//! First a short text changed in every single place, then an image with a bit of each byte cleared in turn, then texts,
+//! fonts and images drawn at random. Numbers, places, counts and the whole rooms are compared.
+
+pub(crate) mod texts;
+
+use super::rooms::Rooms;
+use super::{run as drive, CaseResult, Difference, Part, Plan};
+use crate::model::hex::WRITTEN_TEXT;
+use crate::model::image::{self, FONT_ROWS, IMAGE_BYTES};
+use crate::model::Model;
+use crate::parts::{Answer, Hex};
+use crate::random::Random;
+use std::fmt::Display;
+
+const CHANGED_SHORT: u64 =
+    256 * texts::SHORT.len() as u64 + 2 * texts::SHORT.len() as u64 + 256 * (texts::SHORT.len() as u64 + 1);
+/// One bit of each byte: every call carries a whole image, so all of them would take too long.
+const IMAGE_BITS: u64 = IMAGE_BYTES as u64;
+const RANDOM: u64 = 180_000;
+
+/// Bytes as they can be pasted between quotes.
+fn shown(bytes: &[u8]) -> String {
+    format!("b\"{}\"", bytes.escape_ascii())
+}
+
+/// Judges the two answers, the model's first, and the rooms after the calls.
+fn judge<T: Clone + PartialEq + Display>(
+    answers: [Answer; 2],
+    rooms: &Rooms<T>,
+    inputs: impl FnOnce() -> String,
+) -> Result<Answer, String> {
+    let [expected, got] = answers;
+    let what = if got != expected {
+        format!("the answers differ\n  model   {expected:?}\n  library {got:?}")
+    } else if let Some(difference) = rooms.difference() {
+        format!("the rooms differ after {expected:?}\n{difference}")
+    } else {
+        return Ok(expected);
+    };
+    Err(format!("{what}\n  {}", inputs()))
+}
+
+/// Also returns the room after the call.
+fn compare_read(subject: &dyn Hex, text: &[u8], room: usize, random: &mut Random) -> Result<(Answer, Vec<u8>), String> {
+    let mut rooms = Rooms::of_bytes(room, random);
+    let answers = [Model.read(text, rooms.model()), subject.read(text, rooms.library())];
+    let answer = judge(answers, &rooms, || format!("read, room {room}, text of {} bytes {}", text.len(), shown(text)))?;
+    Ok((answer, rooms.model().to_vec()))
+}
+
+fn compare_write(subject: &dyn Hex, font: &[u16], room: usize, random: &mut Random) -> Result<Answer, String> {
+    let mut rooms = Rooms::of_bytes(room, random);
+    let answers = [Model.write(font, rooms.model()), subject.write(font, rooms.library())];
+    judge(answers, &rooms, || format!("write, room {room}, font {font:?}"))
+}
+
+/// Also returns the room after the call.
+fn compare_image(
+    subject: &dyn Hex,
+    image: &[u8],
+    room: usize,
+    random: &mut Random,
+) -> Result<(Answer, Vec<u16>), String> {
+    let mut rooms = Rooms::of_rows(room, random);
+    let answers = [Model.image_to_font(image, rooms.model()), subject.image_to_font(image, rooms.library())];
+    let answer = judge(answers, &rooms, || {
+        format!("image to font, font room {room}, image of {} bytes {image:?}", image.len())
+    })?;
+    Ok((answer, rooms.model().to_vec()))
+}
+
+fn image_room(text: &[u8], random: &mut Random) -> usize {
+    // The longest texts are few, and a short room must be seen to come before a text too long.
+    match random.below(if text.len() > 65_000 { 4 } else { 24 }) {
+        0 => random.pick(&[0, 1, 8191, 8191, 4096]),
+        1..=8 => IMAGE_BYTES + random.between(1, 60),
+        _ => IMAGE_BYTES,
+    }
+}
+
+/// Reads a text, takes the font from an accepted one, and now and then writes that font again.
+fn text_case(subject: &dyn Hex, text: &[u8], random: &mut Random) -> CaseResult {
+    let room = image_room(text, random);
+    let (answer, image) = compare_read(subject, text, room, random)?;
+    if answer.number != 0 {
+        return Ok(1);
+    }
+    let (answer, font) = compare_image(subject, &image[..IMAGE_BYTES], FONT_ROWS, random)?;
+    if answer.number != 0 || !random.one_in(40) {
+        return Ok(2);
+    }
+    compare_write(subject, &font, WRITTEN_TEXT, random)?;
+    Ok(3)
+}
+
+/// One bit of a font's image cleared.
+fn bit_case(subject: &dyn Hex, base: &[u8], number: u64, random: &mut Random) -> CaseResult {
+    let mut image = base.to_vec();
+    image[number as usize] &= !(1 << random.below(8));
+    compare_image(subject, &image, FONT_ROWS, random)?;
+    Ok(1)
+}
+
+fn random_image_case(subject: &dyn Hex, random: &mut Random) -> CaseResult {
+    let mut image = image::of_font(&texts::random_font(random));
+    for _ in 0..random.below(4) {
+        let place = match random.below(4) {
+            0 => random.pick(&[0, 17, 18, 31, 32, 1983, 1984, 4095, 4096, 4113, 4114, 6079, 6080, 8191]),
+            _ => random.below(IMAGE_BYTES),
+        };
+        image[place] = random.byte();
+    }
+    match random.below(8) {
+        0 => {
+            image.pop();
+        }
+        1 => image.push(0xFF),
+        2 if random.one_in(4) => image.clear(),
+        _ => {}
+    }
+    let room = match random.below(8) {
+        0 => random.pick(&[0, 1, 1115, 1117, 1116 + 62]),
+        _ => FONT_ROWS,
+    };
+    compare_image(subject, &image, room, random)?;
+    Ok(1)
+}
+
+fn write_case(subject: &dyn Hex, random: &mut Random) -> CaseResult {
+    let mut font = texts::random_font(random);
+    match random.below(12) {
+        0 => {
+            font.pop();
+        }
+        1 => font.push(0),
+        2 => font.clear(),
+        3 | 4 => {
+            let place = random.pick(&[0, FONT_ROWS - 1, random.clone().below(FONT_ROWS)]);
+            font[place] = random.pick(&[4096, 4097, 0x8000, 0xFFFF]);
+        }
+        _ => {}
+    }
+    let room = match random.below(4) {
+        0 => random.pick(&[0, 12, 22_528, 22_539, 22_539]),
+        1 => WRITTEN_TEXT + random.between(1, 60),
+        _ => WRITTEN_TEXT,
+    };
+    compare_write(subject, &font, room, random)?;
+    Ok(1)
+}
+
+fn random_case(subject: &dyn Hex, random: &mut Random) -> CaseResult {
+    // The text itself comes first: there are to be as many texts as cases.
+    let text = texts::random_text(random);
+    let mut made = text_case(subject, &text, random)?;
+    if random.one_in(50) {
+        made += write_case(subject, random)?;
+    }
+    if random.one_in(10) {
+        made += random_image_case(subject, random)?;
+    }
+    Ok(made)
+}
+
+pub fn run(subject: &dyn Hex, plan: &Plan, say: &mut dyn FnMut(String)) -> Result<u64, Difference> {
+    let base = image::of_font(&texts::random_font(&mut Random::new(1)));
+    let part = Part {
+        name: "hex",
+        what: "a short text changed everywhere, an image with a bit of each byte cleared, then random texts and fonts",
+        cases: CHANGED_SHORT + IMAGE_BITS + RANDOM,
+        case: &|index, random| {
+            if index < CHANGED_SHORT {
+                let text = texts::changed_short(index).expect("the count covers every change");
+                text_case(subject, &text, random)
+            } else if index < CHANGED_SHORT + IMAGE_BITS {
+                bit_case(subject, &base, index - CHANGED_SHORT, random)
+            } else {
+                random_case(subject, random)
+            }
+        },
+    };
+    drive(&part, plan, say)
+}
+
+#[cfg(test)]
+mod tests {
+    use super::*;
+    use crate::compare::testing::silent;
+    use crate::fast::Fast;
+    use std::cell::RefCell;
+    use std::collections::BTreeMap;
+
+    const RANDOM_FROM: u64 = CHANGED_SHORT + IMAGE_BITS;
+
+    fn some(subject: &dyn Hex, from: u64, count: u64) -> Result<u64, Difference> {
+        run(subject, &Plan { from, count: Some(count), ..Plan::default() }, &mut silent)
+    }
+
+    #[test]
+    fn the_changes_of_the_short_text_are_all_there() {
+        assert!(texts::changed_short(CHANGED_SHORT - 1).is_some());
+        assert!(texts::changed_short(CHANGED_SHORT).is_none());
+    }
+
+    #[test]
+    fn the_fast_one_agrees_with_the_model() {
+        assert_eq!(some(&Fast, CHANGED_SHORT, 500).unwrap(), 500);
+        assert!(some(&Fast, RANDOM_FROM, 3000).unwrap() > 3000);
+        assert!(some(&Fast, 0, 2000).unwrap() >= 2000);
+        assert!(some(&Fast, CHANGED_SHORT - 1000, 1000).unwrap() >= 1000);
+    }
+
+    /// Counts what the cases come to.
+    #[derive(Default)]
+    struct Notes {
+        reads: RefCell<BTreeMap<u32, u32>>,
+        writes: RefCell<BTreeMap<u32, u32>>,
+        fonts: RefCell<BTreeMap<u32, u32>>,
+        longest: RefCell<BTreeMap<usize, u32>>,
+    }
+
+    fn note(notes: &RefCell<BTreeMap<u32, u32>>, answer: Answer) -> Answer {
+        *notes.borrow_mut().entry(answer.number).or_default() += 1;
+        answer
+    }
+
+    impl Hex for Notes {
+        fn read(&self, text: &[u8], image: &mut [u8]) -> Answer {
+            let answer = Fast.read(text, image);
+            if text.len() > 65_000 && (answer.number == 0 || text.len() > 65_535) {
+                *self.longest.borrow_mut().entry(text.len()).or_default() += 1;
+            }
+            note(&self.reads, answer)
+        }
+
+        fn write(&self, font: &[u16], text: &mut [u8]) -> Answer {
+            note(&self.writes, Fast.write(font, text))
+        }
+
+        fn image_to_font(&self, image: &[u8], font: &mut [u16]) -> Answer {
+            note(&self.fonts, Fast.image_to_font(image, font))
+        }
+    }
+
+    #[test]
+    fn the_cases_reach_every_number_often() {
+        let notes = Notes::default();
+        some(&notes, RANDOM_FROM, 8000).unwrap();
+        let reads = notes.reads.into_inner();
+        for number in [0, 6, 7, 8, 9, 10, 11, 12] {
+            assert!(reads.get(&number).is_some_and(|&times| times >= 20), "{number} of {reads:?}");
+        }
+        assert!(reads[&0] > 2000, "{reads:?}");
+        let writes = notes.writes.into_inner();
+        assert!([0, 4, 6].iter().all(|number| writes.contains_key(number)), "{writes:?}");
+        let fonts = notes.fonts.into_inner();
+        assert!([0, 13].iter().all(|number| fonts[number] > 100), "{fonts:?}");
+        let longest = notes.longest.into_inner();
+        assert!([65_535, 65_536].iter().all(|length| longest.contains_key(length)), "{longest:?}");
+    }
+
+    type Read = fn(&[u8], &mut [u8]) -> Answer;
+
+    /// The fast one with one mistake in reading.
+    struct Planted(Read);
+
+    impl Hex for Planted {
+        fn read(&self, text: &[u8], image: &mut [u8]) -> Answer {
+            (self.0)(text, image)
+        }
+
+        fn write(&self, font: &[u16], text: &mut [u8]) -> Answer {
+            Fast.write(font, text)
+        }
+
+        fn image_to_font(&self, image: &[u8], font: &mut [u16]) -> Answer {
+            Fast.image_to_font(image, font)
+        }
+    }
+
+    #[test]
+    fn every_planted_mistake_in_reading_is_found() {
+        let mistakes: &[(&str, Read)] = &[
+            ("always refuses", |_, _| Answer::refused(12, 0)),
+            ("a count from the text's length", |text, image| {
+                let answer = Fast.read(text, image);
+                if answer.number == 0 {
+                    Answer::accepted((text.len() as u32).saturating_sub(12) / 44 * 16)
+                } else {
+                    answer
+                }
+            }),
+            ("fills the image and then finds a bad sum", |text, image| {
+                let answer = Fast.read(text, image);
+                if answer.number == 8 {
+                    image[..IMAGE_BYTES].fill(0xFF);
+                }
+                answer
+            }),
+            ("a byte past the image", |text, image| {
+                let answer = Fast.read(text, image);
+                if answer.number == 0 && image.len() > IMAGE_BYTES {
+                    image[IMAGE_BYTES] = 0xFF;
+                }
+                answer
+            }),
+            ("the address 8192 refused for no data", |text, image| {
+                let marked = text.windows(9).any(|part| part == b":00200000");
+                let answer = Fast.read(text, image);
+                if marked && answer.number == 0 {
+                    Answer::refused(10, 0)
+                } else {
+                    answer
+                }
+            }),
+            ("65,535 bytes too long", |text, image| {
+                if text.len() == 65_535 && image.len() >= IMAGE_BYTES {
+                    Answer::refused(7, 0)
+                } else {
+                    Fast.read(text, image)
+                }
+            }),
+            ("a CR at the very end passed over", |text, image| {
+                let answer = Fast.read(text, image);
+                let cut = text.strip_suffix(b"\r");
+                if answer.number == 7 {
+                    cut.map_or(answer, |cut| Fast.read(cut, image))
+                } else {
+                    answer
+                }
+            }),
+            ("the room judged after the text's length", |text, image| {
+                if text.len() > 65_535 {
+                    Answer::refused(7, 0)
+                } else {
+                    Fast.read(text, image)
+                }
+            }),
+        ];
+        for (name, mistake) in mistakes {
+            let planted = Planted(*mistake);
+            let difference = some(&planted, RANDOM_FROM, 30_000).expect_err(name);
+            assert!(difference.report.contains("library"), "{name}");
+        }
+    }
+
+    /// The fast one with one mistake in the other two calls.
+    struct Other {
+        write: fn(&[u16], &mut [u8]) -> Answer,
+        image_to_font: fn(&[u8], &mut [u16]) -> Answer,
+    }
+
+    impl Hex for Other {
+        fn read(&self, text: &[u8], image: &mut [u8]) -> Answer {
+            Fast.read(text, image)
+        }
+
+        fn write(&self, font: &[u16], text: &mut [u8]) -> Answer {
+            (self.write)(font, text)
+        }
+
+        fn image_to_font(&self, image: &[u8], font: &mut [u16]) -> Answer {
+            (self.image_to_font)(image, font)
+        }
+    }
+
+    #[test]
+    fn planted_mistakes_in_writing_and_taking_are_found() {
+        let good = Other { write: |f, t| Fast.write(f, t), image_to_font: |i, f| Fast.image_to_font(i, f) };
+        assert!(some(&good, RANDOM_FROM, 3000).is_ok());
+        let mistakes = [
+            Other { write: |_, _| Answer::refused(6, 0), ..good },
+            Other {
+                write: |font, text| {
+                    let answer = Fast.write(font, text);
+                    if answer.number == 0 && text.len() > WRITTEN_TEXT {
+                        text[WRITTEN_TEXT] = 0;
+                    }
+                    answer
+                },
+                ..good
+            },
+            Other {
+                image_to_font: |image, font| {
+                    let answer = Fast.image_to_font(image, font);
+                    if answer.number == 13 {
+                        Answer::refused(13, 0)
+                    } else {
+                        answer
+                    }
+                },
+                ..good
+            },
+            Other {
+                image_to_font: |image, font| {
+                    if font.len() > FONT_ROWS {
+                        Answer::accepted(0)
+                    } else {
+                        Fast.image_to_font(image, font)
+                    }
+                },
+                ..good
+            },
+        ];
+        for mistake in mistakes {
+            assert!(some(&mistake, RANDOM_FROM, 6000).is_err());
+        }
+    }
+}

@@ -1,0 +1,385 @@
+//! From display words to dots: the words' kinds, the list of cells, the dot at one place, and the line.
+
+use super::image::{self, ROWS};
+use super::Refusal;
+use crate::parts::{PaintOrder, Settings};
+
+pub const WORDS: usize = 64;
+pub const WIDEST: u32 = 1024;
+pub const LAST_LINE: u32 = 1023;
+
+#[derive(Clone, Copy, Debug, PartialEq, Eq)]
+pub enum Kind {
+    Character {
+        code: u16,
+        colour: u16,
+        blink: bool,
+    },
+    Space {
+        background: u16,
+    },
+    /// The size is that of the row that follows, the spacing counts the lines before it.
+    Return {
+        size: u32,
+        spacing: u32,
+    },
+    End,
+}
+
+/// What a word of ten bits says.
+pub fn kind(word: u16) -> Kind {
+    let code = word / 16;
+    let attributes = word % 16;
+    let colour = attributes / 2;
+    let last_bit = attributes % 2 == 1;
+    match code {
+        62 => Kind::Return { size: u32::from(attributes / 4) + 1, spacing: 4 * u32::from(attributes % 4) },
+        63 if last_bit => Kind::End,
+        63 => Kind::Space { background: colour },
+        _ => Kind::Character { code, colour, blink: last_bit },
+    }
+}
+
+/// A character's cell, or a space's, which has no glyph.
+#[derive(Clone, Copy, Debug, PartialEq, Eq)]
+pub struct Cell {
+    /// The first dot and the first line.
+    pub left: u32,
+    pub top: u32,
+    pub size: u32,
+    pub background: u16,
+    pub glyph: Option<Glyph>,
+}
+
+#[derive(Clone, Copy, Debug, PartialEq, Eq)]
+pub struct Glyph {
+    pub code: u16,
+    pub colour: u16,
+    pub blink: bool,
+}
+
+impl Cell {
+    fn covers(&self, dot: u32, line: u32) -> bool {
+        let width = 12 * self.size;
+        let height = 18 * self.size;
+        self.left <= dot && dot < self.left + width && self.top <= line && line < self.top + height
+    }
+}
+
+/// Every cell of the screen, in the order of the words.
+pub fn cells(words: &[u16], settings: &Settings) -> Vec<Cell> {
+    let mut cells = Vec::new();
+    let mut left = 4 * settings.h;
+    let mut top = 4 * settings.v;
+    let mut size = 1;
+    let mut background = settings.colour as u16;
+    for &word in words {
+        let glyph = match kind(word) {
+            Kind::End => break,
+            Kind::Return { size: next_size, spacing } => {
+                // The row that ends here has its height even if it has no cell.
+                top += 18 * size + spacing;
+                left = 4 * settings.h;
+                size = next_size;
+                continue;
+            }
+            Kind::Space { background: from_here } => {
+                background = from_here;
+                None
+            }
+            Kind::Character { code, colour, blink } => Some(Glyph { code, colour, blink }),
+        };
+        cells.push(Cell { left, top, size, background, glyph });
+        left += 12 * size;
+    }
+    cells
+}
+
+/// Whether blinking characters show in a frame.
+pub fn blink_lit(ratio: u32, frequency: u32, frame: u32) -> bool {
+    let divisor = match frequency {
+        0 => 16,
+        1 => 32,
+        2 => 64,
+        _ => 128,
+    };
+    let lit_frames = match ratio {
+        0 => 3 * divisor / 4,
+        1 => divisor / 2,
+        _ => divisor / 4,
+    };
+    frame % divisor < lit_frames
+}
+
+/// Whether a glyph has its dot lit at a dot and a line of its cell.
+fn glyph_lit(glyph: &Glyph, cell: &Cell, dot: u32, line: u32, font: &[u16], shown: bool) -> bool {
+    if glyph.blink && !shown {
+        return false;
+    }
+    let column = (dot - cell.left) / cell.size;
+    let row = (line - cell.top) / cell.size;
+    let bits = font[ROWS * usize::from(glyph.code) + row as usize];
+    // Bit 11 is the leftmost.
+    bits >> (11 - column) & 1 == 1
+}
+
+/// The painted byte at one place of the screen.
+fn dot_at(cells: &[Cell], font: &[u16], settings: &Settings, frame: u32, dot: u32, line: u32) -> u8 {
+    const VIDEO: u8 = 0;
+    let painted = |colour: u16| 8 + colour as u8;
+
+    if !settings.on {
+        return VIDEO;
+    }
+    let Some(cell) = cells.iter().find(|cell| cell.covers(dot, line)) else {
+        return if settings.mode == 3 { painted(settings.colour as u16) } else { VIDEO };
+    };
+    let shown = blink_lit(settings.ratio, settings.frequency, frame);
+    match &cell.glyph {
+        Some(glyph) if glyph_lit(glyph, cell, dot, line, font, shown) => painted(glyph.colour),
+        _ if settings.mode >= 2 => painted(cell.background),
+        _ => VIDEO,
+    }
+}
+
+/// The first refusal of the table that applies.
+fn judge(order: &PaintOrder, room: usize) -> Result<(), Refusal> {
+    let settings = &order.settings;
+    let in_range = settings.mode <= 3
+        && settings.colour <= 7
+        && settings.h <= 63
+        && settings.v <= 63
+        && settings.ratio <= 3
+        && settings.frequency <= 3;
+    let number = if !in_range {
+        1
+    } else if settings.ratio == 3 {
+        2
+    } else if order.words.len() != WORDS || order.words.iter().any(|&word| word > 1023) {
+        3
+    } else if !image::is_font(order.font) {
+        4
+    } else if order.line > LAST_LINE || order.width > WIDEST {
+        5
+    } else if room < order.width as usize {
+        6
+    } else {
+        return Ok(());
+    };
+    Err(Refusal::plain(number))
+}
+
+/// Paints one line into the first bytes of the room.
+pub fn paint(order: &PaintOrder, dots: &mut [u8]) -> Result<(), Refusal> {
+    judge(order, dots.len())?;
+    let cells = cells(order.words, &order.settings);
+    for dot in 0..order.width {
+        dots[dot as usize] = dot_at(&cells, order.font, &order.settings, order.frame, dot, order.line);
+    }
+    Ok(())
+}
+
+#[cfg(test)]
+mod tests {
+    use super::*;
+    use crate::model::image::FONT_ROWS;
+
+    fn settings(mode: u32) -> Settings {
+        Settings { on: true, mode, colour: 1, h: 0, v: 0, ratio: 0, frequency: 0 }
+    }
+
+    fn screen(start: &[u16]) -> Vec<u16> {
+        let mut words = start.to_vec();
+        words.resize(WORDS, 0);
+        words
+    }
+
+    /// A font in which every row of cell c is given by `row`.
+    fn font(row: impl Fn(usize, usize) -> u16) -> Vec<u16> {
+        (0..FONT_ROWS).map(|at| row(at / ROWS, at % ROWS)).collect()
+    }
+
+    fn painted(words: &[u16], font: &[u16], settings: Settings, frame: u32, line: u32, width: u32) -> Vec<u8> {
+        let mut dots = vec![99; width as usize + 2];
+        paint(&PaintOrder { words, font, settings, frame, line, width }, &mut dots).unwrap();
+        assert_eq!(dots.split_off(width as usize), [99, 99]);
+        dots
+    }
+
+    #[test]
+    fn kinds_of_the_worked_words() {
+        assert_eq!(kind(14), Kind::Character { code: 0, colour: 7, blink: false });
+        assert_eq!(kind(997), Kind::Return { size: 2, spacing: 4 });
+        assert_eq!(kind(1009), Kind::End);
+        assert_eq!(kind(1016), Kind::Space { background: 4 });
+        assert_eq!(kind(995), Kind::Return { size: 1, spacing: 12 });
+        assert_eq!(kind(1007), Kind::Return { size: 4, spacing: 12 });
+        assert_eq!(kind(61 * 16 + 3), Kind::Character { code: 61, colour: 1, blink: true });
+        assert_eq!(kind(1023), Kind::End);
+    }
+
+    #[test]
+    fn the_worked_line() {
+        let words = screen(&[14, 1009]);
+        let mut font = vec![0; FONT_ROWS];
+        font[0] = 2049;
+        let mut expected = vec![15, 9, 9, 9, 9, 9, 9, 9, 9, 9, 9, 15, 0, 0];
+        assert_eq!(painted(&words, &font, settings(2), 0, 0, 14), expected);
+        assert_eq!(painted(&words, &font, settings(2), 0, 18, 14), [0; 14]);
+        expected[12..].fill(9);
+        assert_eq!(painted(&words, &font, settings(3), 0, 0, 14), expected);
+        assert_eq!(painted(&words, &font, settings(3), 0, 18, 14), [9; 14]);
+        for mode in [0, 1] {
+            assert_eq!(painted(&words, &font, settings(mode), 0, 0, 14), [15, 0, 0, 0, 0, 0, 0, 0, 0, 0, 0, 15, 0, 0]);
+        }
+        let off = Settings { on: false, ..settings(3) };
+        assert_eq!(painted(&words, &font, off, 0, 0, 14), [0; 14]);
+    }
+
+    #[test]
+    fn lit_and_unlit_frames() {
+        assert!(blink_lit(0, 0, 11));
+        assert!(!blink_lit(0, 0, 12));
+        assert!(blink_lit(0, 0, 16));
+        assert!(blink_lit(1, 1, 15));
+        assert!(!blink_lit(1, 1, 16));
+        assert!(blink_lit(2, 3, 31));
+        assert!(!blink_lit(2, 3, 32));
+        assert!(blink_lit(2, 3, 128));
+        assert!(!blink_lit(0, 2, u32::MAX));
+    }
+
+    #[test]
+    fn a_blinking_character_keeps_its_background() {
+        let words = screen(&[1016, 15, 1009]);
+        let font = font(|_, _| 4095);
+        let mut expected = vec![12; 12];
+        expected.extend([15; 12]);
+        assert_eq!(painted(&words, &font, settings(2), 11, 0, 24), expected);
+        assert_eq!(painted(&words, &font, settings(2), 12, 0, 24), [12; 24]);
+        assert_eq!(painted(&words, &font, settings(0), 12, 0, 24), [0; 24]);
+    }
+
+    #[test]
+    fn a_return_sizes_the_next_row() {
+        // One cell of size 1, then one of size 2 four lines below it.
+        let words = screen(&[14, 997, 14, 1009]);
+        let font = font(|_, row| if row == 0 { 0b1000_0000_0001 } else { 0 });
+        let places: Vec<_> = cells(&words, &settings(2)).iter().map(|cell| (cell.left, cell.top, cell.size)).collect();
+        assert_eq!(places, [(0, 0, 1), (0, 22, 2)]);
+        assert_eq!(painted(&words, &font, settings(0), 0, 17, 26), [0; 26]);
+        assert_eq!(painted(&words, &font, settings(3), 0, 18, 26), [9; 26]);
+        let mut expected = vec![15, 15];
+        expected.extend([9; 20]);
+        expected.extend([15, 15, 0, 0]);
+        assert_eq!(painted(&words, &font, settings(2), 0, 22, 26), expected);
+        assert_eq!(painted(&words, &font, settings(2), 0, 23, 26), expected);
+        assert_eq!(painted(&words, &font, settings(2), 0, 24, 24), [9; 24]);
+        assert_eq!(painted(&words, &font, settings(2), 0, 58, 24), [0; 24]);
+    }
+
+    #[test]
+    fn an_empty_row_has_its_height() {
+        let words = screen(&[995, 14, 1009]);
+        assert_eq!(cells(&words, &settings(2))[0].top, 30);
+        let words = screen(&[997, 999, 14, 1009]);
+        assert_eq!(cells(&words, &settings(2))[0].top, 18 + 4 + 36 + 12);
+    }
+
+    #[test]
+    fn a_space_colours_all_later_cells_across_rows() {
+        let words = screen(&[14, 1016, 14, 992, 14, 1012, 1009]);
+        let backgrounds: Vec<u16> = cells(&words, &settings(2)).iter().map(|cell| cell.background).collect();
+        assert_eq!(backgrounds, [1, 4, 4, 4, 2]);
+        let font = vec![0; FONT_ROWS];
+        // Outside every cell mode 3 has the starting colour, never the last space's.
+        let mut expected = vec![12; 12];
+        expected.extend([10; 12]);
+        expected.push(9);
+        assert_eq!(painted(&words, &font, settings(3), 0, 20, 25), expected);
+    }
+
+    #[test]
+    fn the_first_cell_is_moved_by_fours() {
+        let place = Settings { h: 63, v: 63, ..settings(2) };
+        let words = screen(&[14, 1009]);
+        let cell = cells(&words, &place)[0];
+        assert_eq!((cell.left, cell.top), (252, 252));
+        let font = font(|_, _| 4095);
+        let line = painted(&words, &font, Settings { mode: 3, ..place }, 0, 252, 265);
+        assert!(line[..252].iter().all(|&dot| dot == 9));
+        assert!(line[252..264].iter().all(|&dot| dot == 15));
+        assert_eq!(line[264], 9);
+    }
+
+    #[test]
+    fn all_64_words_are_read_and_dots_past_the_width_are_cut() {
+        let words = vec![14; 64];
+        let font = font(|_, _| 4095);
+        assert_eq!(painted(&words, &font, settings(0), 0, 0, 1024), {
+            let mut line = vec![15; 768];
+            line.resize(1024, 0);
+            line
+        });
+        assert_eq!(painted(&words, &font, settings(0), 0, 0, 5), [15; 5]);
+        let big: Vec<u16> = [1004].into_iter().chain([14; 63]).collect();
+        assert_eq!(painted(&big, &font, settings(0), 0, 18, 1024), [15; 1024]);
+    }
+
+    #[test]
+    fn no_two_cells_cover_a_dot() {
+        let words = screen(&[14, 1016, 1007, 14, 14, 993, 1008, 14, 1005, 1009]);
+        let list = cells(&words, &settings(2));
+        for line in 0..300 {
+            for dot in 0..300 {
+                assert!(list.iter().filter(|cell| cell.covers(dot, line)).count() <= 1);
+            }
+        }
+    }
+
+    #[test]
+    fn refusals_in_their_order() {
+        let good_words = vec![0; WORDS];
+        let bad_words = vec![1024; WORDS];
+        let good_font = vec![0; FONT_ROWS];
+        let bad_font = vec![4096; FONT_ROWS];
+        let bad_settings = Settings { h: 64, ..settings(0) };
+        let off = Settings { on: false, ratio: 3, ..settings(0) };
+        let refused = |settings, words: &[u16], font: &[u16], line, width, room: usize| {
+            let mut dots = vec![99; room];
+            let outcome = paint(&PaintOrder { words, font, settings, frame: 0, line, width }, &mut dots);
+            assert!(outcome.is_ok() || dots.iter().all(|&dot| dot == 99));
+            outcome.err().map_or(0, |refusal| {
+                assert_eq!(refusal.place, 0);
+                refusal.number
+            })
+        };
+        assert_eq!(refused(bad_settings, &bad_words, &bad_font, 1024, 1025, 0), 1);
+        assert_eq!(refused(Settings { ratio: 3, ..bad_settings }, &bad_words, &bad_font, 1024, 1025, 0), 1);
+        assert_eq!(refused(off, &bad_words, &bad_font, 1024, 1025, 0), 2);
+        assert_eq!(refused(settings(0), &bad_words, &bad_font, 1024, 1025, 0), 3);
+        assert_eq!(refused(settings(0), &good_words[1..], &bad_font, 1024, 1025, 0), 3);
+        assert_eq!(refused(settings(0), &good_words, &bad_font, 1024, 1025, 0), 4);
+        assert_eq!(refused(settings(0), &good_words, &good_font[1..], 1024, 1025, 0), 4);
+        assert_eq!(refused(settings(0), &good_words, &good_font, 0, 1025, 0), 5);
+        assert_eq!(refused(settings(0), &good_words, &good_font, 1024, 0, 0), 5);
+        assert_eq!(refused(settings(0), &good_words, &good_font, 1023, 0, 0), 0);
+        assert_eq!(refused(settings(0), &good_words, &good_font, 1023, 1024, 1024), 0);
+        assert_eq!(refused(settings(0), &good_words, &good_font, 1023, 1024, 1023), 6);
+        // Off or not, and whether or not anything blinks: the values are judged all the same.
+        let plainly_off = Settings { on: false, ..settings(0) };
+        assert_eq!(refused(plainly_off, &good_words, &bad_font, 0, 0, 0), 4);
+        assert_eq!(refused(plainly_off, &good_words, &good_font, 0, 1, 0), 6);
+        assert_eq!(refused(plainly_off, &good_words, &good_font, 0, 0, 0), 0);
+        for bad in [
+            Settings { mode: 4, ..settings(0) },
+            Settings { colour: 8, ..settings(0) },
+            Settings { v: 64, ..settings(0) },
+            Settings { ratio: 4, ..settings(0) },
+            Settings { frequency: 4, ..settings(0) },
+            Settings { on: false, frequency: u32::MAX, ..settings(0) },
+        ] {
+            assert_eq!(refused(bad, &good_words, &good_font, 0, 0, 0), 1);
+        }
+    }
+}

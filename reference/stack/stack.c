@@ -1,0 +1,196 @@
+/*
+ * stack: how much stack each call of the library takes at most, in bytes, over inputs chosen to go deep.
+ *
+ * The memory below the caller's frame is marked, the call is made from that frame, and the lowest mark that is gone
+ * tells how deep it went. Included after the WITH_ definitions.
+ */
+#include "dirgeflint.h"
+#include <stdio.h>
+#include <string.h>
+
+enum { DEPTH = 1 << 18, MARK = 0xA5 };
+
+__attribute__((noinline)) static void mark(void)
+{
+    volatile unsigned char room[DEPTH];
+    for (size_t i = 0; i < DEPTH; i++)
+        room[i] = MARK;
+}
+
+__attribute__((noinline)) static size_t depth(void)
+{
+    volatile unsigned char room[DEPTH];
+    size_t i = 0;
+    while (i < DEPTH && room[i] == MARK)
+        i++;
+    return DEPTH - i;
+}
+
+/* Both see the same memory only if nothing comes between them, so the call is made through a pointer, with no arguments. */
+static size_t deepest;
+
+__attribute__((noinline)) static void measure(void (*call)(void))
+{
+    mark();
+    call();
+    size_t deep = depth();
+    if (deep > deepest)
+        deepest = deep;
+}
+
+static size_t nothing;
+
+static void report(const char *name)
+{
+    printf("%-34s %6lu\n", name, (unsigned long)(deepest - nothing));
+    deepest = 0;
+}
+
+static void none(void)
+{
+}
+
+#ifdef WITH_PULSE
+static volatile uint32_t channel, t;
+static void pulse_level(void)
+{
+    dirgeflint_pulse_level(channel, 0xff, t);
+}
+#endif
+
+#ifdef WITH_DAC
+static dirgeflint_dac dac;
+static uint8_t levels[16384];
+static void dac_reset(void)
+{
+    dirgeflint_dac_reset(&dac);
+}
+static void dac_write_low(void)
+{
+    dirgeflint_dac_write_low(&dac, 0xff);
+}
+static void dac_write_high(void)
+{
+    dirgeflint_dac_write_high(&dac, 0xff);
+}
+static void dac_play(void)
+{
+    dirgeflint_dac_play(&dac, 16384, levels, sizeof levels);
+}
+#endif
+
+#ifdef WITH_PORT
+static dirgeflint_port port;
+static void port_fresh(void)
+{
+    port = dirgeflint_port_fresh();
+}
+static void port_write_address(void)
+{
+    port = dirgeflint_port_write_address(port, 0xff);
+}
+static void port_write_attribute(void)
+{
+    port = dirgeflint_port_write_attribute(port, 0xff);
+}
+static void port_write_character(void)
+{
+    port = dirgeflint_port_write_character(port, 0xff);
+}
+#endif
+
+#if defined(WITH_PAINT) || defined(WITH_HEX)
+static uint16_t font[1116];
+#endif
+
+#ifdef WITH_PAINT
+static uint16_t words[64];
+static uint8_t dots[1024];
+static dirgeflint_settings settings = { 1, 3, 1, 0, 0, 0, 0 };
+static uint32_t line;
+static void paint(void)
+{
+    dirgeflint_paint(words, 64, font, 1116, settings, 12, line, 1024, dots, sizeof dots);
+}
+
+/* Screens of one kind of word, and mixtures: words a, b, a, b, .. */
+static void screens(void)
+{
+    static const uint16_t kinds[] = { 14, 15, 1008, 992, 995, 996, 1004, 1007, 1009 };
+    enum { KINDS = sizeof kinds / sizeof kinds[0] };
+    for (size_t a = 0; a < KINDS; a++)
+        for (size_t b = 0; b < KINDS; b++) {
+            for (size_t i = 0; i < 64; i++)
+                words[i] = kinds[i % 2 == 0 ? a : b];
+            for (line = 0; line < 1024; line += 17)
+                measure(paint);
+        }
+}
+#endif
+
+#ifdef WITH_HEX
+static uint8_t text[65536], image[8192];
+static size_t text_length;
+static void hex_read(void)
+{
+    dirgeflint_hex_read(text, text_length, image, sizeof image);
+}
+static void hex_write(void)
+{
+    dirgeflint_hex_write(font, 1116, text, sizeof text);
+}
+static void image_to_font(void)
+{
+    dirgeflint_image_to_font(image, sizeof image, font, 1116);
+}
+#endif
+
+int main(void)
+{
+    measure(none);
+    nothing = deepest;
+    deepest = 0;
+#ifdef WITH_PULSE
+    for (channel = 0; channel < 9; channel++)
+        for (t = 0; t < 130; t++)
+            measure(pulse_level);
+    report("dirgeflint_pulse_level");
+#endif
+#ifdef WITH_DAC
+    measure(dac_write_low);
+    report("dirgeflint_dac_write_low");
+    measure(dac_write_high);
+    report("dirgeflint_dac_write_high");
+    for (dac.position = 0; dac.position < 16384; dac.position += 97)
+        measure(dac_play);
+    report("dirgeflint_dac_play");
+    measure(dac_reset);
+    report("dirgeflint_dac_reset");
+#endif
+#ifdef WITH_PORT
+    measure(port_fresh);
+    report("dirgeflint_port_fresh");
+    measure(port_write_address);
+    report("dirgeflint_port_write_address");
+    measure(port_write_attribute);
+    report("dirgeflint_port_write_attribute");
+    measure(port_write_character);
+    report("dirgeflint_port_write_character");
+#endif
+#ifdef WITH_PAINT
+    screens();
+    report("dirgeflint_paint");
+#endif
+#ifdef WITH_HEX
+    measure(hex_write);
+    report("dirgeflint_hex_write");
+    text_length = 22540;
+    measure(hex_read);
+    text[22539] = ':';
+    measure(hex_read);
+    report("dirgeflint_hex_read");
+    measure(image_to_font);
+    report("dirgeflint_image_to_font");
+#endif
+    return 0;
+}
