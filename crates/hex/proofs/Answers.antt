@@ -103,12 +103,12 @@ module _ (text : List ℕ) (at count : ℕ) (cells : List ℕ) (before : Passed 
               let below = k-below text at count cells before more in
               before .held
               ∙ tabulate-same 8192 _ _ (λ a g.
-                sym (ap (λ (rs : List (List ℕ)). byteIn 256 rs a)
-                (sym (take-all (before .k + 1) (records text) last) ∙ ap (λ m. take m (records text)) (add-one (before .k)) ∙ take-suc (records text) (before .k) [] below
-                ∙ ap (λ (r : List ℕ). take (before .k) (records text) ++ (r ∷ [])) (record-here text at count cells before more))
-                ∙ in-append 256 (take (before .k) (records text)) (recordAt text at ∷ []) a
-                ∙ ap (λ n. byteIn n (take (before .k) (records text)) a)
-                  (in-one 256 (recordAt text at) a ∙ nothing a)))
+              sym (ap (λ (rs : List (List ℕ)). byteIn 256 rs a)
+              (sym (take-all (before .k + 1) (records text) last) ∙ ap (λ m. take m (records text)) (add-one (before .k)) ∙ take-suc (records text) (before .k) [] below
+              ∙ ap (λ (r : List ℕ). take (before .k) (records text) ++ (r ∷ [])) (record-here text at count cells before more))
+              ∙ in-append 256 (take (before .k) (records text)) (recordAt text at ∷ []) a
+              ∙ ap (λ n. byteIn n (take (before .k) (records text)) a)
+              (in-one 256 (recordAt text at) a ∙ nothing a)))
             where
               nothing : (a : ℕ) → pick (gives (recordAt text at) a) (dataAt (recordAt text at) a) 256 ≡ 256
               nothing a =
@@ -155,7 +155,7 @@ module _ (text : List ℕ) (at count : ℕ) (cells : List ℕ) (before : Passed 
           unfolding found
           met-passed e =
               let all : lengthOf (recordAt text at) ≤ freshIn (take (before .k) (records text)) (recordAt text at) =
-                  omega (arith, eqb-true found (getD bytes 0 0) (sym e), found-is, byte 0 (omega arith)) in
+              omega (arith, eqb-true found (getD bytes 0 0) (sym e), found-is, byte 0 (omega arith)) in
               rw next-is
               (passed-more text at count cells before more shaped bytes front _ _ (byte 0 (omega arith)) address-is fits no-end
               (fault-none _ _ some summed no-end typed-data ends-within all) all)

@@ -99,6 +99,7 @@ module _ (rs : List (List ℕ)) (r bytes cells : List ℕ)
     where
       cell : getD cells a 0 ≡ byteIn 256 rs a
       cell = ap (λ l. getD l a 0) held ∙ getD-tabulate 8192 (byteIn 256 rs) a 0 h
+
       go : Dec (a < addressOf r) → Dec (a < addressOf r + lengthOf r) → storedAt bytes (addressOf r) (lengthOf r) cells a ≡ byteIn 256 (rs ++ (r ∷ [])) a
       go (yes g) d =
           stored-below bytes (addressOf r) (lengthOf r) cells a g ∙ cell
@@ -108,12 +109,12 @@ module _ (rs : List (List ℕ)) (r bytes cells : List ℕ)
           stored-in bytes (addressOf r) (lengthOf r) cells a (omega arith) d
           ∙ byte-front (4 + (a - addressOf r)) (omega arith)
           ∙ sym (in-append 256 rs (r ∷ []) a
-            ∙ ap (λ n. byteIn n rs a) (in-one 256 r a ∙ simp (le-leb (addressOf r) a (omega arith), lt-ltb _ _ d))
-            ∙ in-none (dataAt r a) rs a (rw (← e) (fresh (a - addressOf r) (omega arith))))
+          ∙ ap (λ n. byteIn n rs a) (in-one 256 r a ∙ simp (le-leb (addressOf r) a (omega arith), lt-ltb _ _ d))
+          ∙ in-none (dataAt r a) rs a (rw (← e) (fresh (a - addressOf r) (omega arith))))
       go (no g) (no d) =
           stored-past bytes (addressOf r) (lengthOf r) cells a (omega arith) ∙ cell
           ∙ sym (in-append 256 rs (r ∷ []) a
-            ∙ ap (λ n. byteIn n rs a) (in-one 256 r a ∙ simp (le-leb (addressOf r) a (omega arith), le-ltb a (addressOf r + lengthOf r) (omega arith))))
+          ∙ ap (λ n. byteIn n rs a) (in-one 256 r a ∙ simp (le-leb (addressOf r) a (omega arith), le-ltb a (addressOf r + lengthOf r) (omega arith))))
 
   pub stored-all : tabulate 8192 (storedAt bytes (addressOf r) (lengthOf r) cells) ≡ tabulate 8192 (byteIn 256 (rs ++ (r ∷ [])))
   stored-all = tabulate-same 8192 _ _ stored-same

@@ -81,9 +81,11 @@ first-cut (suc m) (c ∷ []) z h p e =
     let f : m ≡ 0 = omega arith in
     rw (ne-eqb c 10 (p 0 (omega arith) .0), f)
 first-cut (suc m) (c ∷ (d ∷ s)) z h p e =
-    rw
-    (suc-add m (endLength (drop m (d ∷ s))), ne-eqb c 10 (p 0 (omega arith) .0),
-     first-cut m (d ∷ s) (omega arith) (le-of-suc-le-suc h) (λ k l. p (suc k) (omega arith)) e)
+    rw (
+      suc-add m (endLength (drop m (d ∷ s))),
+      ne-eqb c 10 (p 0 (omega arith) .0),
+      first-cut m (d ∷ s) (omega arith) (le-of-suc-le-suc h) (λ k l. p (suc k) (omega arith)) e,
+    )
 
 onto-first : (c : ℕ) (ls : List (List ℕ)) → getD (onto c ls) 0 [] ≡ c ∷ getD ls 0 []
 onto-first c [] = refl

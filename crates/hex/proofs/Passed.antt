@@ -119,7 +119,7 @@ passed-none text =
       passed = omega arith;
       held = is-tabulate 0 8192 (λ a. 256) blank blank-length (λ a h. getD-replicate {A = ℕ} 8192 a 256 0 h);
       counted = refl;
-      bounded = omega arith
+      bounded = omega arith;
     }
 
 module _ (text : List ℕ) (at count : ℕ) (cells : List ℕ) (before : Passed text at count cells) where
@@ -133,7 +133,7 @@ module _ (text : List ℕ) (at count : ℕ) (cells : List ℕ) (before : Passed 
       let none : drop (before .k) (lines text) ≡ [] = sym (before .rest) ∙ ap lines (drop-of-length-le text {i = at} h) ∙ lines-nil in
       let all : length (records text) ≡ before .k = omega (arith, before .passed, ap length none, length-drop (before .k) (lines text), rs-length) in
       let stop : stopOf (records text) ≡ before .k =
-          first-none (length (records text)) (stopsAt (records text)) (λ j g. before .past j (omega arith)) ∙ all in
+      first-none (length (records text)) (stopsAt (records text)) (λ j g. before .past j (omega arith)) ∙ all in
       rw (stop, le-ltb (before .k) (length (records text)) (omega arith), ← before .place)
 
   -- the next line
@@ -167,7 +167,7 @@ module _ (text : List ℕ) (at count : ℕ) (cells : List ℕ) (before : Passed 
     verdict-fault f h e =
         let fault = fault-here ∙ e in
         let stop : stopOf (records text) ≡ before .k =
-            first-is (length (records text)) (stopsAt (records text)) (before .k) k-below (before .past) (rw (fault, lt-ltb 0 f h)) in
+        first-is (length (records text)) (stopsAt (records text)) (before .k) k-below (before .past) (rw (fault, lt-ltb 0 f h)) in
         rw (stop, lt-ltb _ _ k-below, fault, lt-ltb 0 f h, ← before .place)
 
     module _ (good : faultOf (take (before .k) (records text)) (recordAt text at) ≡ 0) where
@@ -184,9 +184,9 @@ module _ (text : List ℕ) (at count : ℕ) (cells : List ℕ) (before : Passed 
         unfolding judged
         verdict-done h l =
             let whole : countOf (records text) ≡ count =
-                ap countOf (sym (take-all (before .k + 1) (records text) h)) ∙ total-take lengthOf (records text) (before .k) k-below
-                ∙ ap (λ n. n + lengthOf (nth (records text) (before .k))) (sym (before .counted)) ∙ ap (λ (r : List ℕ). count + lengthOf r) record-here
-                ∙ ap (λ n. count + n) l ∙ add-zero count in
+            ap countOf (sym (take-all (before .k + 1) (records text) h)) ∙ total-take lengthOf (records text) (before .k) k-below
+            ∙ ap (λ n. n + lengthOf (nth (records text) (before .k))) (sym (before .counted)) ∙ ap (λ (r : List ℕ). count + lengthOf r) record-here
+            ∙ ap (λ n. count + n) l ∙ add-zero count in
             rw (stop-end, lt-ltb _ _ k-below, fault-here ∙ good, le-ltb _ _ h, whole)
 
     -- it is of the record's shape
@@ -200,9 +200,10 @@ module _ (text : List ℕ) (at count : ℕ) (cells : List ℕ) (before : Passed 
 
       -- where the next line starts, and the lines from there on
       pub next-fits : (nextAt text at ≤ length text) × (at + 11 + 2 * lengthOf (recordAt text at) ≤ nextAt text at)
-      next-fits =
-          (next-within text at more shape-here,
-           omega (arith, next-here text at more shape-here, whole-here, ap length (Rattle.hex.proofs.Place.record-here text at more shape-here), length-tabulate (sizeAt text at) (λ i. byteAt text (at + 1 + 2 * i))))
+      next-fits = (
+        next-within text at more shape-here,
+        omega (arith, next-here text at more shape-here, whole-here, ap length (Rattle.hex.proofs.Place.record-here text at more shape-here), length-tabulate (sizeAt text at) (λ i. byteAt text (at + 1 + 2 * i))),
+      )
 
       next-rest : lines (drop (nextAt text at) text) ≡ drop (before .k + 1) (lines text)
       next-rest =
@@ -248,11 +249,11 @@ module _ (text : List ℕ) (at count : ℕ) (cells : List ℕ) (before : Passed 
                   ap (λ m. tabulate 8192 (storedAt bytes address m cells)) sized
                   ∙ ap (λ a. tabulate 8192 (storedAt bytes a (lengthOf (recordAt text at)) cells)) placed
                   ∙ stored-all (take (before .k) (records text)) (recordAt text at) bytes cells front whole-here (before .held)
-                    (λ i h. first-before (lengthOf (recordAt text at)) (λ i. isGiven (take (before .k) (records text)) (addressOf (recordAt text at) + i)) i (omega arith))
+                  (λ i h. first-before (lengthOf (recordAt text at)) (λ i. isGiven (take (before .k) (records text)) (addressOf (recordAt text at) + i)) i (omega arith))
                   ∙ sym (ap (λ (rs : List (List ℕ)). tabulate 8192 (byteIn 256 rs)) (ap (λ m. take m (records text)) (add-one (before .k)) ∙ take-suc (records text) (before .k) [] k-below
-                    ∙ ap (λ (r : List ℕ). take (before .k) (records text) ++ (r ∷ [])) record-here));
+                  ∙ ap (λ (r : List ℕ). take (before .k) (records text) ++ (r ∷ [])) record-here));
               counted =
                   sym (total-take lengthOf (records text) (before .k) k-below ∙ ap (λ m. m + lengthOf (nth (records text) (before .k))) (sym (before .counted))
                   ∙ ap (λ (r : List ℕ). count + lengthOf r) record-here ∙ ap (λ m. count + m) (sym sized));
-              bounded = omega (arith, before .bounded, next-fits .1)
+              bounded = omega (arith, before .bounded, next-fits .1);
             }

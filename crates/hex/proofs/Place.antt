@@ -54,7 +54,7 @@ module _ (text : List ℕ) (place : ℕ) (here : place < length text) where
         reaches = omega (arith, shape .reaches, size-here, length-here);
         ends =
             let e : place + (1 + 2 * sizeAt text place) ≡ place + 1 + 2 * sizeAt text place = omega arith in
-            rw (← e, ← drop-drop (1 + 2 * sizeAt text place) place text, ← size-here) (shape .ends)
+            rw (← e, ← drop-drop (1 + 2 * sizeAt text place) place text, ← size-here) (shape .ends);
       }
 
   pub to-shape : ShapeAt text place → Shape (drop place text)
@@ -67,7 +67,7 @@ module _ (text : List ℕ) (place : ℕ) (here : place < length text) where
         reaches = omega (arith, shape .reaches, size-here, length-here);
         ends =
             let e : place + (1 + 2 * sizeAt text place) ≡ place + 1 + 2 * sizeAt text place = omega arith in
-            rw (size-here, drop-drop (1 + 2 * sizeAt text place) place text, e) (shape .ends)
+            rw (size-here, drop-drop (1 + 2 * sizeAt text place) place text, e) (shape .ends);
       }
 
   -- a line that fails a test
@@ -83,9 +83,9 @@ module _ (text : List ℕ) (place : ℕ) (here : place < length text) where
         shape-spells (drop place text) (to-shape shape)
         ∙ ap (λ n. tabulate n (λ i. byteAt (drop place text) (1 + 2 * i))) size-here
         ∙ tabulate-same (sizeAt text place) _ (λ i. byteAt text (place + 1 + 2 * i)) (λ i h.
-          let e : place + (1 + 2 * i) ≡ place + 1 + 2 * i = omega arith in
-          let f : place + (1 + 2 * i + 1) ≡ place + 1 + 2 * i + 1 = omega arith in
-          rw (at-drop (1 + 2 * i), at-drop (1 + 2 * i + 1), e, f))
+        let e : place + (1 + 2 * i) ≡ place + 1 + 2 * i = omega arith in
+        let f : place + (1 + 2 * i + 1) ≡ place + 1 + 2 * i + 1 = omega arith in
+        rw (at-drop (1 + 2 * i), at-drop (1 + 2 * i + 1), e, f))
 
     pub shaped-here : isShaped (bodyOf (drop place text)) ≡ true
     shaped-here = shape-is (drop place text) (to-shape shape)
@@ -126,7 +126,7 @@ module _ (text : List ℕ) (place : ℕ) (here : place < length text) where
     next-here =
         let e : place + (1 + 2 * sizeAt text place) ≡ place + 1 + 2 * sizeAt text place = omega arith in
         let f : drop body-size (drop place text) ≡ drop (place + 1 + 2 * sizeAt text place) text
-            = drop-drop body-size place text ∙ ap (λ n. drop (place + (1 + 2 * n)) text) size-here ∙ ap (λ n. drop n text) e in
+        = drop-drop body-size place text ∙ ap (λ n. drop (place + (1 + 2 * n)) text) size-here ∙ ap (λ n. drop n text) e in
         let g = ap endLength f in
         omega (arith, next-is, size-here, g)
 
@@ -145,20 +145,20 @@ module _ (text : List ℕ) (place : ℕ) (here : place < length text) where
             begins = begins;
             digits = λ k h. sum-digits text (place + 1) n reaches summed k (omega arith);
             reaches = omega arith;
-            ends = rw (← asked) (past-ends text (place + 1 + 2 * n) ended)
+            ends = rw (← asked) (past-ends text (place + 1 + 2 * n) ended);
           }
 
       pub is-shaped : (bytes : List ℕ) → take n bytes ≡ bytesFrom text (place + 1) n
           → (Shaped (sumFrom text (place + 1) n) (pastEnd text (place + 1 + 2 * n)) ≡ lineAt text place)
-              × (take (length (recordAt text place)) bytes ≡ recordAt text place)
+          × (take (length (recordAt text place)) bytes ≡ recordAt text place)
       unfolding lineAt
       is-shaped bytes e =
           let shape = shape-found in
           let rec : recordAt text place ≡ bytesFrom text (place + 1) n = record-here shape ∙ ap (bytesFrom text (place + 1)) (sym asked) in
           let sum : sumFrom text (place + 1) n ≡ sumOf (recordAt text place) =
-              sum-good text (place + 1) n reaches (sum-digits text (place + 1) n reaches summed) ∙ ap sumOf (sym rec) in
+          sum-good text (place + 1) n reaches (sum-digits text (place + 1) n reaches summed) ∙ ap sumOf (sym rec) in
           let next : pastEnd text (place + 1 + 2 * n) ≡ nextAt text place =
-              past-some text (place + 1 + 2 * n) (past-ends text (place + 1 + 2 * n) ended)
-              ∙ ap (λ m. place + 1 + 2 * m + endLength (drop (place + 1 + 2 * m) text)) asked ∙ sym (next-here shape) in
+          past-some text (place + 1 + 2 * n) (past-ends text (place + 1 + 2 * n) ended)
+          ∙ ap (λ m. place + 1 + 2 * m + endLength (drop (place + 1 + 2 * m) text)) asked ∙ sym (next-here shape) in
           let size : length (recordAt text place) ≡ n = ap length rec ∙ length-tabulate n _ in
           (rw (shaped-here shape, sum, next), rw size (e ∙ sym rec))

@@ -92,7 +92,7 @@ module _ (s : List ℕ) (e : isShaped (bodyOf s) ≡ true) where
                 rw (← at k (omega arith), ← ap (λ n. getD body n 0) e1, ← getD-drop 1 body (k - 1) 0)
                 (digits-at (drop 1 body) (more .0) (k - 1) (omega (arith, length-drop 1 body)));
             reaches = omega (arith, cut .within);
-            ends = rw (← size) (cut .ends)
+            ends = rw (← size) (cut .ends);
           }
 
 pub unshaped : (s : List ℕ) → (Shape s → ⊥) → isShaped (bodyOf s) ≡ false

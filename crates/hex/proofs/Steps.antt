@@ -32,8 +32,8 @@ module _ (text : List ℕ) (place : ℕ) where
 
   pub past-here : place < length text
       → pastEnd text place
-          ≡ pick (pick (eqb (getD text place 0) 10) true (both (eqb (getD text place 0) 13) (eqb (getD text (place + 1) 0) 10)))
-          (place + pick (eqb (getD text place 0) 10) 1 2) 0
+      ≡ pick (pick (eqb (getD text place 0) 10) true (both (eqb (getD text place 0) 13) (eqb (getD text (place + 1) 0) 10)))
+      (place + pick (eqb (getD text place 0) 10) 1 2) 0
   unfolding pastEnd atEnd
   past-here h =
       let next : getD (drop (suc place) text) 0 0 ≡ getD text (place + 1) 0 = getD-drop (suc place) text 0 0 ∙ ap (λ n. getD text n 0) (omega arith) in

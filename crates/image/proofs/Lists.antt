@@ -95,7 +95,7 @@ module _ (f : ℕ → ℕ) where
       record {
         size = length-set l i v ∙ g .size;
         done = λ k m. go k m (ℕ-discrete k i);
-        left = λ k m. getD-set-other l i k v 0 (omega arith) ∙ g .left k (omega arith)
+        left = λ k m. getD-set-other l i k v 0 (omega arith) ∙ g .left k (omega arith);
       }
     where
       go : (k : ℕ) → k < i + 1 → Dec (k ≡ i) → getD (set l i v) k 0 ≡ f k
@@ -119,4 +119,4 @@ module _ (f : ℕ → ℕ) where
           let e′ : n + (k - n) ≡ k = omega arith in
           g .left k (omega arith)
           ∙ sym (ap (λ i. getD (tabulate n f ++ drop n l₀) i 0) e ∙ getD-append-add (tabulate n f) (drop n l₀) (k - n) 0
-            ∙ getD-drop n l₀ (k - n) 0 ∙ ap (λ i. getD l₀ i 0) e′)
+          ∙ getD-drop n l₀ (k - n) 0 ∙ ap (λ i. getD l₀ i 0) e′)

@@ -101,6 +101,7 @@ module _ (font : List ℕ) where
     where
       row : ℕ
       row = rowOf font (cellAt address) (lineAt address)
+
       go : (b d : Bool) → pick b (pick d 0 240) 255 ≤ pick b (pick d (row % 256) (240 + row / 256)) 255
       go true true = omega arith
       go true false = omega arith

@@ -5,7 +5,9 @@ ghost use lib.ListN.{length};
 ghost use Rattle.image.specs.Image.{leastAt, firstLack, fontOf, rowIn, answerOf, leftOf, said};
 
 const IMAGE_BYTES: usize = 8192;
+
 const HALF_BYTES: usize = 4096;
+
 const FONT_ROWS: usize = 1116;
 
 pub enum Turned {

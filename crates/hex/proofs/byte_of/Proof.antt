@@ -1,9 +1,9 @@
+-- `hex::byte_of` meets its contract: the one test decides the definition.
+-- Assumes nothing.
 use borrow.Author.Tests.{le-ltb, lt-ltb}
 use borrow.Author.Needs.{needs}
 use Rattle.hex.proofs.byte_of.Statement.{statement}
 use Rattle.hex.proofs.byte_of.Tie as tie
-use Rattle.hex.proofs.byte_of.Reads as reads
-use Rattle.hex.proofs.byte_of.Lts as lts
 
 cast-result : tie.Need-cast-result
 cast-result c = search needs

@@ -1,3 +1,5 @@
+-- `hex::collect` meets its contract: how far the reading has come (`Passed`) is the invariant, and each answer is the verdict at the line met; the measure is what is left of the text.
+-- Assumes nothing.
 use Rattle.hex.proofs.Passed.{blank-length}
 use Rattle.hex.proofs.Answers.{met-next, met-room, met-sum, met-long-end, met-far-end, met-more, met-done, met-all, met-type, met-past, met-twice, met-passed}
 use Rattle.hex.proofs.Faults.{is-end, end-length, other-type, long-end, far-end, fault-shape, fault-sum, fault-type, fault-end, fault-past, fault-twice, fault-none}
@@ -16,10 +18,6 @@ use mathlib.Core.Path.{_≡_, refl, sym, _∙_, ap}
 use Prim.Native.Nat.{_≤_, _<_, _-_, _+_, _*_}
 use Rattle.hex.proofs.collect.Statement.{statement}
 use Rattle.hex.proofs.collect.Tie as tie
-use Rattle.hex.proofs.collect.Reads as reads
-use Rattle.hex.proofs.collect.Lts as lts
-use Rattle.hex.proofs.parse.Reads as parse-reads
-use Rattle.hex.proofs.store.Reads as store-reads
 
 abbrev Inv-loop : tie.InvT-loop
 Inv-loop digits text bytes₀ cells₀ at₀ count₀ bytes cells at count = Passed text at count cells × (length bytes ≡ length bytes₀) × (length cells ≡ length cells₀)
@@ -49,10 +47,11 @@ same-length-2 : tie.Need-same-length-2 Inv-loop μ-loop
 same-length-2 c = search needs
 
 returns : tie.Need-returns Inv-loop μ-loop
-returns c = let s = c .before .before .before .before .before .before .before .before .before .before .before .before in let at = c .before .before .before .before .before .before .before .loop in
-    (sym (verdict-fault (s .args .text .now) (at .at) (at .count) (at .cells) (at .inv .0) (omega arith) 7 (omega arith)
-    (fault-shape _ _ (line-unshaped (s .args .text .now) (at .at) (sym (c .enum-told .given .1) ∙ c .before .before .before .before .parse .ensures .0)))),
-     λ e. absurd (omega arith))
+returns c = let s = c .before .before .before .before .before .before .before .before .before .before .before .before in let at = c .before .before .before .before .before .before .before .loop in (
+  sym (verdict-fault (s .args .text .now) (at .at) (at .count) (at .cells) (at .inv .0) (omega arith) 7 (omega arith)
+      (fault-shape _ _ (line-unshaped (s .args .text .now) (at .at) (sym (c .enum-told .given .1) ∙ c .before .before .before .before .parse .ensures .0)))),
+  λ e. absurd (omega arith),
+)
 
 cast-t18 : tie.Need-cast-t18 Inv-loop μ-loop
 cast-t18 c = search needs

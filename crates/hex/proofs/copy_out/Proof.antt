@@ -1,3 +1,5 @@
+-- `hex::copy_out` meets its contract: the bytes passed are the cells', the others as lent; the measure is what is left of the image.
+-- Assumes nothing.
 use borrow.Author.Needs.{needs}
 use Rattle.hex.specs.Steps.{byteOf}
 use Rattle.image.proofs.Lists.{Filled, filled-none, filled-more, filled-all}
@@ -7,9 +9,6 @@ use mathlib.Core.Path.{_∙_}
 use Prim.Native.Nat.{_≤_, _-_}
 use Rattle.hex.proofs.copy_out.Statement.{statement}
 use Rattle.hex.proofs.copy_out.Tie as tie
-use Rattle.hex.proofs.copy_out.Reads as reads
-use Rattle.hex.proofs.copy_out.Lts as lts
-use Rattle.hex.proofs.byte_of.Reads as byte-of-reads
 
 abbrev Inv-loop : tie.InvT-loop
 Inv-loop cells image₀ i₀ image i = (i ≤ 8192) × Filled (λ k. byteOf (getD cells k 0)) i image image₀

@@ -1,3 +1,5 @@
+-- `hex::decode` meets its contract: the bytes passed are decoded and summed, and all their digits are digits; the measure is what is left of them.
+-- Assumes nothing.
 use borrow.Author.Needs.{needs}
 use Rattle.hex.proofs.Steps.{table-digit, sum-bad, sum-good, sum-more, digits-more}
 use Rattle.hex.specs.Steps.{bytesFrom}
@@ -12,9 +14,6 @@ use native.Mathlib.Nat.{not-suc-le-zero}
 use Prim.Native.Nat.{ℕ, _≤_, _<_, _-_, _+_, _*_, _%_}
 use Rattle.hex.proofs.decode.Statement.{statement}
 use Rattle.hex.proofs.decode.Tie as tie
-use Rattle.hex.proofs.decode.Reads as reads
-use Rattle.hex.proofs.decode.Lts as lts
-use Rattle.std.proofs.num.wrapping_add_u8.Reads as wrapping-add-u8-reads
 
 abbrev Inv-loop : tie.InvT-loop
 Inv-loop digits text from n bytes₀ sum₀ i₀ bytes sum i = (i ≤ n) × Filled (λ k. byteAt text (from + 2 * k)) i bytes bytes₀ × (sum ≡ total (bytesFrom text from i) % 256)
@@ -98,10 +97,12 @@ loop-less c = search needs
 loop-again : tie.Need-loop-again Inv-loop μ-loop
 loop-again c = let a = c .before .before .before .before .before .before .before .before .before .before .before .before .args in let at = c .before .before .before .before .before .before .before .before .loop in let p = a .from + 2 * at .i in
     let high = table-digit (a .digits .now) (getD (a .text .now) p 0) (c .before .before .before .before .before .before .before .before .before .before .before .before .pre .0) (omega (arith, c .before .before .before .before .before .before .shared-slice-known3 .given p)) in
-    let low = table-digit (a .digits .now) (getD (a .text .now) (p + 1) 0) (c .before .before .before .before .before .before .before .before .before .before .before .before .pre .0) (omega (arith, c .before .before .before .shared-slice-known5 .given (p + 1))) in
-    (omega arith, filled-more _ (at .i) (at .bytes) _ _ (omega arith) (omega (arith, high, low)) (at .inv .1),
-     sum-more (at .i) (λ k. byteAt (a .text .now) (a .from + 2 * k)) _ _ _ (at .inv .2) (omega (arith, high, low)) (c .wrapping-add-u8 .ensures),
-     digits-more (a .text .now) (a .from) (at .i) (at .inv .3) (omega (arith, high)) (omega (arith, low)))
+    let low = table-digit (a .digits .now) (getD (a .text .now) (p + 1) 0) (c .before .before .before .before .before .before .before .before .before .before .before .before .pre .0) (omega (arith, c .before .before .before .shared-slice-known5 .given (p + 1))) in (
+      omega arith,
+      filled-more _ (at .i) (at .bytes) _ _ (omega arith) (omega (arith, high, low)) (at .inv .1),
+      sum-more (at .i) (λ k. byteAt (a .text .now) (a .from + 2 * k)) _ _ _ (at .inv .2) (omega (arith, high, low)) (c .wrapping-add-u8 .ensures),
+      digits-more (a .text .now) (a .from) (at .i) (at .inv .3) (omega (arith, high)) (omega (arith, low)),
+    )
 
 cast-result : tie.Need-cast-result Inv-loop μ-loop
 cast-result c = search needs
@@ -112,10 +113,11 @@ same-length-3 c = c .before .loop .inv .1 .size
 returns-3 : tie.Need-returns-3 Inv-loop μ-loop
 returns-3 c = let a = c .before .before .before .before .before .args in let at = c .before .loop in
     let e : at .i ≡ a .n = omega arith in
-    let f : ℕ → ℕ = λ k. byteAt (a .text .now) (a .from + 2 * k) in
-    (at .inv .2 ∙ ap (λ m. total (bytesFrom (a .text .now) (a .from) m) % 256) e
-     ∙ sym (sum-good (a .text .now) (a .from) (a .n) (c .before .before .before .before .before .pre .1) (λ k h. at .inv .3 k (omega arith))),
-     λ h. ap (take (a .n)) (filled-all f (a .n) (at .i) (at .bytes) _ e (c .before .before .before .before .before .pre .2) (at .inv .1)) ∙ take-at _ _ (a .n) (length-tabulate (a .n) f))
+    let f : ℕ → ℕ = λ k. byteAt (a .text .now) (a .from + 2 * k) in (
+      at .inv .2 ∙ ap (λ m. total (bytesFrom (a .text .now) (a .from) m) % 256) e
+          ∙ sym (sum-good (a .text .now) (a .from) (a .n) (c .before .before .before .before .before .pre .1) (λ k h. at .inv .3 k (omega arith))),
+      λ h. ap (take (a .n)) (filled-all f (a .n) (at .i) (at .bytes) _ e (c .before .before .before .before .before .pre .2) (at .inv .1)) ∙ take-at _ _ (a .n) (length-tabulate (a .n) f),
+    )
 
 pub decode-spec : {M : Type 1} → statement M
 decode-spec =

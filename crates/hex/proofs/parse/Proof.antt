@@ -1,3 +1,5 @@
+-- `hex::parse` meets its contract: each test that fails denies the record's shape, and all of them passed give it.
+-- Assumes nothing.
 use Rattle.hex.proofs.Place.{sizeAt, not-shaped, no-sum, no-end, is-shaped}
 use Rattle.hex.proofs.Steps.{table-digit}
 use Rattle.hex.specs.declared.Line.the-variants.{Shaped, Unshaped}
@@ -11,26 +13,22 @@ use Prim.Native.Nat.{_+_, _*_, _<_}
 use borrow.Author.Needs.{needs}
 use Rattle.hex.proofs.parse.Statement.{statement}
 use Rattle.hex.proofs.parse.Tie as tie
-use Rattle.hex.proofs.parse.Reads as reads
-use Rattle.hex.proofs.parse.Lts as lts
-use Rattle.hex.proofs.decode.Reads as decode-reads
-use Rattle.hex.proofs.past_end.Reads as past-end-reads
 
 -- the number of bytes that the first of them asks for
 asked : (c : tie.Else4)
     → 5
-        + (16 * getD (c .before .before .before .before .before .before .before .before .before .before .before .before .args .digits .now) (getD (c .before .before .before .before .before .before .before .before .before .before .before .before .args .text .now) (c .before .before .before .before .before .before .before .before .before .before .before .before .args .at + 1) 0) 0
-        + getD (c .before .before .before .before .before .before .before .before .before .before .before .before .args .digits .now) (getD (c .before .before .before .before .before .before .before .before .before .before .before .before .args .text .now) (c .before .before .before .before .before .before .before .before .before .before .before .before .args .at + 2) 0) 0)
+    + (16 * getD (c .before .before .before .before .before .before .before .before .before .before .before .before .args .digits .now) (getD (c .before .before .before .before .before .before .before .before .before .before .before .before .args .text .now) (c .before .before .before .before .before .before .before .before .before .before .before .before .args .at + 1) 0) 0
+    + getD (c .before .before .before .before .before .before .before .before .before .before .before .before .args .digits .now) (getD (c .before .before .before .before .before .before .before .before .before .before .before .before .args .text .now) (c .before .before .before .before .before .before .before .before .before .before .before .before .args .at + 2) 0) 0)
     ≡ sizeAt (c .before .before .before .before .before .before .before .before .before .before .before .before .args .text .now) (c .before .before .before .before .before .before .before .before .before .before .before .before .args .at)
 asked c =
     let s = c .before .before .before .before .before .before .before .before .before .before .before .before in
     let p = s .args .at in
     let high =
-        table-digit (s .args .digits .now) (getD (s .args .text .now) (p + 1) 0) (s .pre .0)
-        (omega (arith, c .before .before .before .before .before .shared-slice-known4 .given (p + 1))) in
+    table-digit (s .args .digits .now) (getD (s .args .text .now) (p + 1) 0) (s .pre .0)
+    (omega (arith, c .before .before .before .before .before .shared-slice-known4 .given (p + 1))) in
     let low =
-        table-digit (s .args .digits .now) (getD (s .args .text .now) (p + 2) 0) (s .pre .0)
-        (omega (arith, c .before .before .shared-slice-known6 .given (p + 2))) in
+    table-digit (s .args .digits .now) (getD (s .args .text .now) (p + 2) 0) (s .pre .0)
+    (omega (arith, c .before .before .shared-slice-known6 .given (p + 2))) in
     omega (arith, high, low)
 
 sub-if1 : tie.Need-sub-if1
@@ -141,7 +139,7 @@ returns-8 c = let s = c .before .before .before .before .before .before .before 
     let called = c .before .before .before .before .before .decode in
     let summed = rw (called .ensures .0) at (c .before .before .if6 .left) in
     let done = is-shaped (s .args .text .now) (s .args .at) (s .pre .1) _ (asked (c .before .before .before .before .before .before .before .before)) (omega arith) (c .before .before .before .before .before .before .before .before .before .before .before .before .before .before .if2 .left) (omega (arith, summed))
-        (λ e. c .if7 .left (c .before .past-end .ensures ∙ e)) _ (called .ensures .1 (omega arith)) in
+    (λ e. c .if7 .left (c .before .past-end .ensures ∙ e)) _ (called .ensures .1 (omega arith)) in
     (rw (called .ensures .0, c .before .past-end .ensures) (done .0), done .1)
 
 pub parse-spec : {M : Type 1} → statement M

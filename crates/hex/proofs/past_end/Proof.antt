@@ -1,3 +1,5 @@
+-- `hex::past_end` meets its contract: what stands at the place decides the definition, one answer for each way.
+-- Assumes nothing.
 use Prim.Native.Nat.{_+_}
 use Rattle.hex.proofs.Steps.{past-over, past-here}
 use native.Mathlib.Omega.{arith}
@@ -8,8 +10,6 @@ use mathlib.Core.Path.{_≡_, sym, _∙_, ap}
 use borrow.Author.Needs.{needs}
 use Rattle.hex.proofs.past_end.Statement.{statement}
 use Rattle.hex.proofs.past_end.Tie as tie
-use Rattle.hex.proofs.past_end.Reads as reads
-use Rattle.hex.proofs.past_end.Lts as lts
 
 returns : tie.Need-returns
 returns c = let a = c .before .args in sym (past-over (a .text .now) (a .place) (omega arith))

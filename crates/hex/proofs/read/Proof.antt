@@ -1,3 +1,5 @@
+-- `hex::read` meets its contract: the tests of the two lengths, then the verdict that `collect` gives; the room is written only where that is acceptance.
+-- Assumes nothing.
 use Rattle.hex.proofs.Outcomes.{answers, leaves, keeps, not-done}
 use Rattle.hex.specs.Steps.{blank}
 use Rattle.hex.specs.Reading.{answerOf, leftOf, said, verdict}
@@ -10,10 +12,6 @@ use mathlib.Core.Path.{_≡_, refl, sym, _∙_, ap}
 use borrow.Author.Needs.{needs}
 use Rattle.hex.proofs.read.Statement.{statement}
 use Rattle.hex.proofs.read.Tie as tie
-use Rattle.hex.proofs.read.Reads as reads
-use Rattle.hex.proofs.read.Lts as lts
-use Rattle.hex.proofs.collect.Reads as collect-reads
-use Rattle.hex.proofs.copy_out.Reads as copy-out-reads
 
 returns : tie.Need-returns
 unfolding answerOf leftOf
@@ -52,15 +50,17 @@ same-length c = search needs
 
 returns-3 : tie.Need-returns-3
 returns-3 c = let a = c .before .before .before .before .before .before .before .before .before .before .before .before .before .before .before .before .before .args in let called = c .before .before .before .before .before .before .before .before .before .collect in
-    let told = c .before .before .before .before .before .enum-told .given .1 in
-    (called .ensures .0 ∙ answers (a .text .now) (a .image .now) (c .before .before .before .before .before .before .before .before .before .before .before .before .before .before .if1 .left) (c .before .before .before .before .before .before .before .before .before .before .before .before .before .if2 .left),
-     c .before .before .copy-out .ensures
-     ∙ leaves (a .text .now) (a .image .now) (c .before .before .before .before .before .before .before .before .before .before .before .before .before .before .if1 .left) (c .before .before .before .before .before .before .before .before .before .before .before .before .before .if2 .left) (called .result) (called .ensures .0) (ap (λ x. said x .number) told) _ (called .ensures .1 (ap (λ x. said x .number) told)))
+    let told = c .before .before .before .before .before .enum-told .given .1 in (
+      called .ensures .0 ∙ answers (a .text .now) (a .image .now) (c .before .before .before .before .before .before .before .before .before .before .before .before .before .before .if1 .left) (c .before .before .before .before .before .before .before .before .before .before .before .before .before .if2 .left),
+      c .before .before .copy-out .ensures
+          ∙ leaves (a .text .now) (a .image .now) (c .before .before .before .before .before .before .before .before .before .before .before .before .before .before .if1 .left) (c .before .before .before .before .before .before .before .before .before .before .before .before .before .if2 .left) (called .result) (called .ensures .0) (ap (λ x. said x .number) told) _ (called .ensures .1 (ap (λ x. said x .number) told)),
+    )
 
 returns-4 : tie.Need-returns-4
-returns-4 c = let a = c .before .before .before .before .before .before .before .before .before .before .before .args in let called = c .before .before .before .collect in
-    (called .ensures .0 ∙ answers (a .text .now) (a .image .now) (c .before .before .before .before .before .before .before .before .if1 .left) (c .before .before .before .before .before .before .before .if2 .left),
-     keeps (a .text .now) (a .image .now) (c .before .before .before .before .before .before .before .before .if1 .left) (c .before .before .before .before .before .before .before .if2 .left) (called .result) (called .ensures .0) (not-done (called .result) (c .match .keys2)))
+returns-4 c = let a = c .before .before .before .before .before .before .before .before .before .before .before .args in let called = c .before .before .before .collect in (
+  called .ensures .0 ∙ answers (a .text .now) (a .image .now) (c .before .before .before .before .before .before .before .before .if1 .left) (c .before .before .before .before .before .before .before .if2 .left),
+  keeps (a .text .now) (a .image .now) (c .before .before .before .before .before .before .before .before .if1 .left) (c .before .before .before .before .before .before .before .if2 .left) (called .result) (called .ensures .0) (not-done (called .result) (c .match .keys2)),
+)
 
 pub read-spec : {M : Type 1} → statement M
 read-spec =

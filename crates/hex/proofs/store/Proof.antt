@@ -1,3 +1,5 @@
+-- `hex::store` meets its contract: none of the cells passed was given, and they hold the record's data; the measure is what is left of it.
+-- Assumes nothing.
 use borrow.Author.Needs.{needs}
 use Rattle.hex.proofs.Steps.{stored-none, stored-more, stored-past}
 use Rattle.hex.specs.Steps.{storedAt}
@@ -13,8 +15,6 @@ use native.Mathlib.Nat.{not-suc-le-zero}
 use Prim.Native.Nat.{ℕ, _≤_, _<_, _-_, _+_}
 use Rattle.hex.proofs.store.Statement.{statement}
 use Rattle.hex.proofs.store.Tie as tie
-use Rattle.hex.proofs.store.Reads as reads
-use Rattle.hex.proofs.store.Lts as lts
 
 abbrev Inv-loop : tie.InvT-loop
 Inv-loop bytes n address cells₀ i₀ cells i = (i ≤ n) × (length cells ≡ length cells₀) × ((k : ℕ) → k < i → ltb (getD cells₀ (address + k) 0) 256 ≡ false)
@@ -71,10 +71,12 @@ loop-less c = search needs
 
 loop-again : tie.Need-loop-again Inv-loop μ-loop
 loop-again c = let a = c .before .before .before .before .before .args in let at = c .before .before .before .before .loop in
-    let here = sym (at .inv .3 (a .address + at .i) ∙ stored-past (a .bytes .now) (a .address) (at .i) (a .cells .now) _ (omega arith)) in
-    (omega arith, length-set (at .cells) (a .address + at .i) _ ∙ at .inv .1,
-     below-more (λ k. ltb (getD (a .cells .now) (a .address + k) 0) 256 ≡ false) (at .i) (at .inv .2) (ap (λ x. ltb x 256) here ∙ le-ltb _ _ (c .before .if1 .left)),
-     stored-more (a .bytes .now) (a .address) (at .i) (a .cells .now) (at .cells) _ (omega arith) refl (at .inv .3))
+    let here = sym (at .inv .3 (a .address + at .i) ∙ stored-past (a .bytes .now) (a .address) (at .i) (a .cells .now) _ (omega arith)) in (
+      omega arith,
+      length-set (at .cells) (a .address + at .i) _ ∙ at .inv .1,
+      below-more (λ k. ltb (getD (a .cells .now) (a .address + k) 0) 256 ≡ false) (at .i) (at .inv .2) (ap (λ x. ltb x 256) here ∙ le-ltb _ _ (c .before .if1 .left)),
+      stored-more (a .bytes .now) (a .address) (at .i) (a .cells .now) (at .cells) _ (omega arith) refl (at .inv .3),
+    )
 
 same-length-2 : tie.Need-same-length-2 Inv-loop μ-loop
 same-length-2 c = c .before .loop .inv .1
@@ -82,10 +84,11 @@ same-length-2 c = c .before .loop .inv .1
 returns-2 : tie.Need-returns-2 Inv-loop μ-loop
 returns-2 c = let a = c .before .before .args in let at = c .before .loop in
     let e : at .i ≡ a .n = omega arith in
-    let none = first-none (a .n) (λ (k : ℕ). ltb (getD (a .cells .now) (a .address + k) 0) 256) (λ k h. at .inv .2 k (omega arith)) in
-    (sym (eq-eqb _ _ none),
-     λ t. is-tabulate 0 8192 (storedAt (a .bytes .now) (a .address) (a .n) (a .cells .now)) (at .cells) (omega arith)
-     (λ k h. at .inv .3 k ∙ ap (λ m. storedAt (a .bytes .now) (a .address) m (a .cells .now) k) e))
+    let none = first-none (a .n) (λ (k : ℕ). ltb (getD (a .cells .now) (a .address + k) 0) 256) (λ k h. at .inv .2 k (omega arith)) in (
+      sym (eq-eqb _ _ none),
+      λ t. is-tabulate 0 8192 (storedAt (a .bytes .now) (a .address) (a .n) (a .cells .now)) (at .cells) (omega arith)
+          (λ k h. at .inv .3 k ∙ ap (λ m. storedAt (a .bytes .now) (a .address) m (a .cells .now) k) e),
+    )
 
 pub store-spec : {M : Type 1} → statement M
 store-spec =

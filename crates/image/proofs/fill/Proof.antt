@@ -1,3 +1,5 @@
+-- `image::fill` meets its contract: the rows passed are the image's and the others as lent; the measure is what is left of the font.
+-- Assumes nothing.
 use Rattle.image.proofs.Lists.{Filled, filled-none, filled-more, filled-whole}
 use borrow.Author.Needs.{needs}
 use Rattle.image.specs.Image.{rowIn}
@@ -7,9 +9,6 @@ use mathlib.Core.Path.{refl, sym, _∙_, ap}
 use Prim.Native.Nat.{_≤_, _-_}
 use Rattle.image.proofs.fill.Statement.{statement}
 use Rattle.image.proofs.fill.Tie as tie
-use Rattle.image.proofs.fill.Reads as reads
-use Rattle.image.proofs.fill.Lts as lts
-use Rattle.image.proofs.row.Reads as row-reads
 
 abbrev Inv-loop : tie.InvT-loop
 Inv-loop image font₀ i₀ font i = (i ≤ 1116) × Filled (rowIn image) i font font₀

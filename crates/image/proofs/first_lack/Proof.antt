@@ -1,3 +1,5 @@
+-- `image::first_lack` meets its contract: no address passed lacks a bit, so the one found is the first; the measure is what is left of the image.
+-- Assumes nothing.
 use lib.Dec.{ltb}
 use native.Mathlib.Nat.{not-suc-le-zero}
 use borrow.Author.Needs.{needs}
@@ -12,9 +14,6 @@ use mathlib.Core.Path.{_≡_, refl, sym, _∙_, ap}
 use Prim.Native.Nat.{ℕ, _≤_, _<_, _-_}
 use Rattle.image.proofs.first_lack.Statement.{statement}
 use Rattle.image.proofs.first_lack.Tie as tie
-use Rattle.image.proofs.first_lack.Reads as reads
-use Rattle.image.proofs.first_lack.Lts as lts
-use Rattle.image.proofs.least.Reads as least-reads
 
 abbrev Inv-loop : tie.InvT-loop
 Inv-loop image i₀ i = (i ≤ 8192) × ((k : ℕ) → k < i → lacksAt image k ≡ false)
@@ -43,10 +42,11 @@ loop-less : tie.Need-loop-less Inv-loop μ-loop
 loop-less c = search needs
 
 loop-again : tie.Need-loop-again Inv-loop μ-loop
-loop-again c = let at = c .before .before .before .before in let image = c .before .before .before .before .before .before .args .image .now in
-    (omega arith,
-     below-more (λ k. lacksAt image k ≡ false) (at .loop .i) (at .loop .inv .1)
-     (ap (λ n. ltb (getD image (at .loop .i) 0) n) (sym (c .before .least .ensures)) ∙ le-ltb _ _ (c .if1 .left)))
+loop-again c = let at = c .before .before .before .before in let image = c .before .before .before .before .before .before .args .image .now in (
+  omega arith,
+  below-more (λ k. lacksAt image k ≡ false) (at .loop .i) (at .loop .inv .1)
+      (ap (λ n. ltb (getD image (at .loop .i) 0) n) (sym (c .before .least .ensures)) ∙ le-ltb _ _ (c .if1 .left)),
+)
 
 returns-2 : tie.Need-returns-2 Inv-loop μ-loop
 returns-2 c = let at = c .before in let e : at .loop .i ≡ 8192 = omega arith in

@@ -1,3 +1,5 @@
+-- `image::image_to_font` meets its contract: each way out fixes the tests of the answer, and with them what is left in the room.
+-- Assumes nothing.
 use Rattle.image.specs.Image.{answerOf, leftOf, firstLack}
 use native.Mathlib.Omega.{arith}
 use borrow.Author.Tests.{eq-eqb, ne-eqb, lt-ltb, le-ltb}
@@ -7,10 +9,6 @@ use mathlib.Core.Path.{_≡_, refl, sym, _∙_, ap}
 use borrow.Author.Needs.{needs}
 use Rattle.image.proofs.image_to_font.Statement.{statement}
 use Rattle.image.proofs.image_to_font.Tie as tie
-use Rattle.image.proofs.image_to_font.Reads as reads
-use Rattle.image.proofs.image_to_font.Lts as lts
-use Rattle.image.proofs.fill.Reads as fill-reads
-use Rattle.image.proofs.first_lack.Reads as first-lack-reads
 
 returns : tie.Need-returns
 unfolding answerOf leftOf

@@ -1,11 +1,11 @@
+-- `image::least` meets its contract: the tests in the order of the definition decide it, one answer for each way.
+-- Assumes nothing.
 use native.Mathlib.Omega.{arith}
 use Prim.Native.Nat.{_/_, _%_}
 use Rattle.image.specs.Image.{leastAt}
 use borrow.Author.Tests.{lt-ltb, le-ltb}
 use Rattle.image.proofs.least.Statement.{statement}
 use Rattle.image.proofs.least.Tie as tie
-use Rattle.image.proofs.least.Reads as reads
-use Rattle.image.proofs.least.Lts as lts
 
 returns : tie.Need-returns
 unfolding leastAt

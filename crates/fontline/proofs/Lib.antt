@@ -1,0 +1,3 @@
+pub mod Backed
+pub mod Checking
+pub mod Unique

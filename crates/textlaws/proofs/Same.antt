@@ -1,0 +1,111 @@
+-- What an accepted text's count and image depend on: its records alone. So neither the case of a digit nor the end of a line changes them,
+-- and two accepted texts with the same records, in whatever order, have the same image.
+-- Assumes nothing.
+use mathlib.Core.Path.{_≡_, refl, sym, _∙_, ap}
+use mathlib.Core.Bool.{Bool, true, false}
+use mathlib.Core.List.{List, [], _∷_, _++_, map}
+use Prim.Native.Nat.{ℕ, zero, suc, _+_, _-_, _*_, _<_, _≤_}
+use native.Mathlib.Nat.{not-suc-le-zero, le-of-suc-le-suc}
+use native.Mathlib.Omega.{arith}
+use lib.Dec.{eqb, ltb}
+use lib.ListN.{length, getD, take, drop, length-append, length-drop, List·getD-append}
+use lib.Seq.{getD-drop, take-at, drop-at, ext-getD}
+use borrow.Author.Tests.{ltb-true, lt-ltb, eq-eqb}
+use Rattle.laws.specs.Pick.{pick, both}
+use Rattle.laws.specs.Said.{Said, accepted, refused}
+use Rattle.image.specs.Lists.{tabulate}
+use Rattle.image.proofs.Lists.{tabulate-same}
+use Rattle.hex.specs.Digits.{digit, byteAt}
+use Rattle.hex.specs.Lines.{lines, atEnd, bodyOf, placeOf}
+use Rattle.hex.specs.Records.{records, recordOf, spelledBy, isShaped, allDigits, byteIn, countOf, gives, dataAt}
+use Rattle.hex.specs.Reading.{faultAt, stopOf, judged, verdict, imageIn, answerOf}
+use Rattle.hex.proofs.Lines.{Plain, body-cut}
+
+-- whether lines are judged good depends on their records
+judged-same : (ls ls′ rs : List (List ℕ)) (k n : ℕ) → judged ls rs k ≡ accepted n → judged ls′ rs k ≡ accepted n
+unfolding judged
+judged-same ls ls′ rs k n e = go (ltb k (length rs)) (ltb 0 (faultAt rs k)) refl (ltb (k + 1) (length rs)) e
+  where
+    number : {s s′ : Said} → s ≡ s′ → s .number ≡ s′ .number
+    number e = ap (λ (s : Said). s .number) e
+
+    go : (a f : Bool) → ltb 0 (faultAt rs k) ≡ f → (l : Bool)
+        → pick a (pick f (refused (faultAt rs k) (placeOf ls k)) (pick l (refused 12 (placeOf ls (k + 1))) (accepted (countOf rs)))) (refused 12 (placeOf ls k)) ≡ accepted n
+        → pick a (pick f (refused (faultAt rs k) (placeOf ls′ k)) (pick l (refused 12 (placeOf ls′ (k + 1))) (accepted (countOf rs)))) (refused 12 (placeOf ls′ k)) ≡ accepted n
+    go true true h l e = absurd (omega (arith, number e, ltb-true 0 (faultAt rs k) h))
+    go true false h true e = absurd (omega (arith, number e))
+    go true false h false e = e
+    go false f h l e = absurd (omega (arith, number e))
+
+-- two texts with the same records: where one is accepted so is the other, unless it is too long, with the same count; and they spell the
+-- same image
+pub same-verdict : (text text′ : List ℕ) (n : ℕ) → records text ≡ records text′ → verdict text ≡ accepted n → verdict text′ ≡ accepted n
+same-verdict text text′ n e h =
+    ap (λ (rs : List (List ℕ)). judged (lines text′) rs (stopOf rs)) (sym e) ∙ judged-same (lines text) (lines text′) (records text) (stopOf (records text)) n h
+
+pub same-image : (text text′ : List ℕ) → records text ≡ records text′ → imageIn text ≡ imageIn text′
+same-image text text′ e = ap (λ (rs : List (List ℕ)). tabulate 8192 (byteIn 255 rs)) e
+
+-- lines without their ends that are alike: the same but for the case of digits
+pub record Alike (body body′ : List ℕ) : Type 0 where
+  pub size : length body ≡ length body′
+  pub first : getD body 0 0 ≡ getD body′ 0 0
+  pub digits : (k : ℕ) → digit (getD body (1 + k) 0) ≡ digit (getD body′ (1 + k) 0)
+
+all-alike : (l l′ : List ℕ) → length l ≡ length l′ → ((k : ℕ) → digit (getD l k 0) ≡ digit (getD l′ k 0)) → allDigits l ≡ allDigits l′
+unfolding allDigits
+all-alike [] [] e h = refl
+all-alike [] (c ∷ l′) e h = absurd (omega arith)
+all-alike (c ∷ l) [] e h = absurd (omega arith)
+all-alike (c ∷ l) (c′ ∷ l′) e h = rw (h 0, all-alike l l′ (omega arith) (λ k. h (suc k)))
+
+module _ (body body′ : List ℕ) (alike : Alike body body′) where
+  bytes-alike : (k : ℕ) → byteAt body (1 + k) ≡ byteAt body′ (1 + k)
+  bytes-alike k =
+      let e : 1 + k + 1 ≡ 1 + (k + 1) = omega arith in
+      rw (alike .digits k, e, alike .digits (k + 1))
+
+  shaped-alike : isShaped body ≡ isShaped body′
+  unfolding isShaped
+  shaped-alike =
+      rw (
+        alike .first,
+        alike .size,
+        bytes-alike 0,
+        all-alike (drop 1 body) (drop 1 body′) (length-drop 1 body ∙ ap (λ n. n - 1) (alike .size) ∙ sym (length-drop 1 body′))
+            (λ k. ap digit (getD-drop 1 body k 0) ∙ alike .digits k ∙ sym (ap digit (getD-drop 1 body′ k 0))),
+      )
+
+  -- they are the same record
+  pub alike-spells : spelledBy body ≡ spelledBy body′
+  unfolding spelledBy
+  alike-spells =
+      rw (shaped-alike, bytes-alike 0)
+      (ap (λ (l : List ℕ). pick (isShaped body′) l []) (tabulate-same (5 + byteAt body′ 1) _ _ (λ i h. bytes-alike (2 * i))))
+
+-- upper and lower case are one digit
+pub cases-alike : (c : ℕ) → c < 6 → digit (65 + c) ≡ digit (97 + c)
+unfolding digit
+cases-alike c h = go c h
+  where
+    go : (c : ℕ) → c < 6 → digit (65 + c) ≡ digit (97 + c)
+    go zero h = refl
+    go (suc zero) h = refl
+    go (suc (suc zero)) h = refl
+    go (suc (suc (suc zero))) h = refl
+    go (suc (suc (suc (suc zero)))) h = refl
+    go (suc (suc (suc (suc (suc zero))))) h = refl
+    go (suc (suc (suc (suc (suc (suc c)))))) h = absurd (omega arith)
+
+-- a line's end is not part of its record: LF, CR LF or none
+pub ended-record : (body end : List ℕ) → ((k : ℕ) → k < length body → Plain (getD body k 0)) → atEnd end ≡ true → recordOf (body ++ end) ≡ spelledBy body
+ended-record body end plain e =
+    ap spelledBy
+    (body-cut (length body) (body ++ end) (omega (arith, length-append body end))
+    (λ k h. rw (List·getD-append body end 0 k h) (plain k h))
+    (rw (drop-at body end (length body) refl) e)
+    ∙ take-at body end (length body) refl)
+
+pub ends : (atEnd [] ≡ true) × (atEnd (10 ∷ []) ≡ true) × (atEnd (13 ∷ (10 ∷ [])) ≡ true)
+unfolding atEnd
+ends = (refl, refl, refl)
