@@ -427,46 +427,60 @@ fn shown_bits(font: &[u16], view: View, y: Lines, size: usize, code: usize, blin
     font[at]
 }
 
-// A cell's row of 12 bits over the dots from x on. Each size has its own call, so that a column compiles to one store.
+// A cell's row of 12 bits over the dots from x on, each bit `size` dots wide, cut where the line ends.
 fn stretch(out: &mut [u8], x: Dots, size: usize, bits: u16, on: u8, off: u8)
     requires { ⌜ ((1 ≤ size) × (size ≤ 4)) × (x .0 ≤ 65536) ⌝ }
     ensures { λ _. ⌜ now (out .exit) ≡ overlay (stretched (x .0) (12 * size) size bits on off) (now (out .entry)) ⌝ }
 {
-    match size {
-        1 => stretch_by(out, x, 1, bits, on, off),
-        2 => stretch_by(out, x, 2, bits, on, off),
-        3 => stretch_by(out, x, 3, bits, on, off),
-        _ => stretch_by(out, x, 4, bits, on, off),
+    if x.0 + CELL_COLUMNS * size <= out.len() {
+        stretch_whole(out, x, size, bits, on, off)
+    } else {
+        stretch_cut(out, x, size, bits, on, off)
     }
 }
 
-fn stretch_by(out: &mut [u8], x: Dots, size: usize, bits: u16, on: u8, off: u8)
-    requires { ⌜ ((1 ≤ size) × (size ≤ 4)) × (x .0 ≤ 65536) ⌝ }
+// A cell that the line has whole: column by column, with no test of the line's end and no division.
+fn stretch_whole(out: &mut [u8], x: Dots, size: usize, bits: u16, on: u8, off: u8)
+    requires { ⌜ ((1 ≤ size) × (size ≤ 4)) × (x .0 + 12 * size ≤ length (now out)) ⌝ }
     ensures { λ _. ⌜ now (out .exit) ≡ overlay (stretched (x .0) (12 * size) size bits on off) (now (out .entry)) ⌝ }
 {
     let from = x.0;
     let mut j = 0;
     while j < CELL_COLUMNS {
-        span(out, from + j * size, size, bit_byte(bits, j, on, off));
+        column(out, from + j * size, size, bit_byte(bits, j, on, off));
         j += 1;
     }
 }
 
-// n dots of one byte from `from` on, cut where the line ends. The loop for dots that all fit has n turns, so that it compiles to one store.
-fn span(out: &mut [u8], from: usize, n: usize, byte: u8)
-    requires { ⌜ (from ≤ 131072) × (n ≤ 4) ⌝ }
-    ensures { λ _. ⌜ now (out .exit) ≡ overlay (patched from n (λ d. byte)) (now (out .entry)) ⌝ }
+// One to four dots of one byte.
+fn column(out: &mut [u8], from: usize, size: usize, byte: u8)
+    requires { ⌜ ((1 ≤ size) × (size ≤ 4)) × (from + size ≤ length (now out)) ⌝ }
+    ensures { λ _. ⌜ now (out .exit) ≡ overlay (patched from size (λ d. byte)) (now (out .entry)) ⌝ }
 {
-    let mut i = 0;
-    if from + n <= out.len() {
-        while i < n {
-            out[from + i] = byte;
-            i += 1;
-        }
+    out[from] = byte;
+    if size == 1 {
         return;
     }
+    out[from + 1] = byte;
+    if size == 2 {
+        return;
+    }
+    out[from + 2] = byte;
+    if size == 3 {
+        return;
+    }
+    out[from + 3] = byte;
+}
+
+// A cell that the line has a part of, or nothing: dot by dot.
+fn stretch_cut(out: &mut [u8], x: Dots, size: usize, bits: u16, on: u8, off: u8)
+    requires { ⌜ ((1 ≤ size) × (size ≤ 4)) × ((x .0 ≤ 65536) × (length (now out) < x .0 + 12 * size)) ⌝ }
+    ensures { λ _. ⌜ now (out .exit) ≡ overlay (stretched (x .0) (12 * size) size bits on off) (now (out .entry)) ⌝ }
+{
+    let from = x.0;
+    let mut i = 0;
     while from + i < out.len() {
-        out[from + i] = byte;
+        out[from + i] = bit_byte(bits, i / size, on, off);
         i += 1;
     }
 }
