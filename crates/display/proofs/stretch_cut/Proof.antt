@@ -52,8 +52,8 @@ loop-again c =
     let a = c .before .before .before .before .args in
     let l = c .before .before .loop in
     let e =
-        ap (λ (b : ℕ). set (l .out) (a .x .0 + l .i) b) (c .bit-byte .ensures)
-        ∙ patch-more (a .x .0) (l .i) (λ d. bitByte (a .bits) (d / a .size) (a .on) (a .off)) (a .out .now) (l .out) (l .inv .1 .0) (omega arith) in
+    ap (λ (b : ℕ). set (l .out) (a .x .0 + l .i) b) (c .bit-byte .ensures)
+    ∙ patch-more (a .x .0) (l .i) (λ d. bitByte (a .bits) (d / a .size) (a .on) (a .off)) (a .out .now) (l .out) (l .inv .1 .0) (omega arith) in
     (omega arith, (e, ap length e ∙ overlay-length (patched (a .x .0) (l .i + 1) (λ d. bitByte (a .bits) (d / a .size) (a .on) (a .off))) 0 (a .out .now)))
 
 same-length : tie.Need-same-length Inv-loop μ-loop
