@@ -1,9 +1,9 @@
 -- Dots painted one after the other; and what a cell's bits show, stretched over its dots, is what the account says of the cell.
 -- Assumes nothing.
-use mathlib.Core.Path.{_≡_, refl, sym, ap, _∙_}
+use mathlib.Core.Path.{_≡_, refl, ap, _∙_}
 use mathlib.Core.Bool.{Bool, true, false}
 use mathlib.Core.List.{List}
-use Prim.Native.Nat.{ℕ, _+_, _-_, _*_, _/_, _%_, _^_, _<_, _≤_}
+use Prim.Native.Nat.{ℕ, _+_, _-_, _*_, _/_, _^_, _<_, _≤_}
 use native.Mathlib.Nat.{zero-div}
 use native.Mathlib.Omega.{arith}
 use Rattle.laws.specs.Pick.{pick, both}
@@ -40,7 +40,7 @@ no-bits : (j : ℕ) → bitSet 0 j ≡ false
 no-bits j = simp (zero-div (2 ^ (11 - j)))
 
 -- bits blinked out show as a row whose dots are all unlit
-pub shown-bits-dot : (shown : Bool) (row j on off : ℕ) → bitByte (pick shown row 0) j on off ≡ pick (both shown (bitSet row j)) on off
+shown-bits-dot : (shown : Bool) (row j on off : ℕ) → bitByte (pick shown row 0) j on off ≡ pick (both shown (bitSet row j)) on off
 shown-bits-dot true row j on off = refl
 shown-bits-dot false row j on off = simp (no-bits j)
 

@@ -1,10 +1,10 @@
 -- A scan that keeps the largest number met: `within` of the rest and of that number is `within` of the whole.
 -- Assumes nothing.
 use Prim.Native.Nat.{ℕ, _+_, _<_, _≤_}
-use mathlib.Core.Path.{_≡_, refl, sym}
+use mathlib.Core.Path.{_≡_, refl}
 use mathlib.Core.Bool.{Bool, true, false}
 use mathlib.Core.Logic.{_⊎_, inl, inr, ⊎-elim}
-use mathlib.Core.List.{List, [], _∷_}
+use mathlib.Core.List.{List}
 use native.Mathlib.Numerals.{add-one}
 use native.Mathlib.Omega.{arith}
 use borrow.Author.Tests.{le-leb, lt-leb, leb-true, leb-false}
@@ -23,7 +23,7 @@ pub split : (a b : ℕ) → (a ≤ b) ⊎ (b < a)
 split a b = split-by a b (leb a b) refl
 
 -- two numbers are at most another where the larger is
-pub both-most : (a b most : ℕ) (rest : Bool) → a ≤ b → both (leb b most) rest ≡ both (leb a most) (both (leb b most) rest)
+both-most : (a b most : ℕ) (rest : Bool) → a ≤ b → both (leb b most) rest ≡ both (leb a most) (both (leb b most) rest)
 both-most a b most rest le =
     ⊎-elim (λ h. simp (le-leb b most h, le-leb a most (omega arith))) (λ h. ⊎-elim (λ g. simp (lt-leb b most h, le-leb a most g)) (λ g. simp (lt-leb b most h, lt-leb a most g)) (split a most)) (split b most)
 
