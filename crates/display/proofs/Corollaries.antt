@@ -1,18 +1,19 @@
--- What follows of a screen's cells: the words after an end do not matter; fonts that agree on the characters shown paint the same line;
+-- What follows from the account: a line is its dots, and a smaller width cuts it; the words after an end do not matter; fonts that agree on the characters shown paint the same line;
 -- left of the first cell and above it nothing is shown. (That cells never overlap is `one-cell` of Join.antt.)
 -- Assumes nothing.
 use mathlib.Core.Path.{_≡_, refl, sym, ap, _∙_}
 use mathlib.Core.Bool.{Bool, true, false}
 use mathlib.Core.Logic.{_⊎_, inl, inr, ⊎-elim}
 use mathlib.Core.List.{List, [], _∷_, _++_}
-use Prim.Native.Nat.{ℕ, _+_, _-_, _*_, _/_, _<_, _≤_}
+use Prim.Native.Nat.{ℕ, _-_, _*_, _/_, _<_, _≤_}
 use native.Mathlib.Omega.{arith}
 use Rattle.laws.specs.Pick.{pick}
 use Rattle.laws.specs.Lines.{tabulate, firstShown, holders}
-use Rattle.laws.proofs.Tabulate.{tabulate-ext}
-use Rattle.laws.proofs.Holders.{first-none, holders-append}
+use lib.ListN.{take, getD}
+use Rattle.laws.proofs.Tabulate.{tabulate-ext, tabulate-at, tabulate-cut}
+use Rattle.laws.proofs.Holders.{first-none}
 use Rattle.laws.proofs.Placing.{cell-has, cell-below, cell-beside, share-below}
-use Rattle.font.specs.Font.{rowOf, fontDot}
+use Rattle.font.specs.Font.{rowOf}
 use Rattle.display.specs.declared.Dots.{Dots}
 use Rattle.display.specs.declared.Lines.{Lines}
 use Rattle.display.specs.declared.View.{View}
@@ -51,6 +52,16 @@ same-words words words′ font s frame line width e =
     ap (λ (cs : List Cell). tabulate (width .0) (λ k. pick (s .on) (dotAt font (viewOf s frame line) (s .colour) cs k) 0))
     (sym (cells-read l words p) ∙ ap (λ (ws : List ℕ). cellsFrom l ws p) e ∙ cells-read l words′ p)
 
+-- the line is its dots, one by one
+pub line-dot : (words font : List ℕ) (s : Settings) (frame : ℕ) (line : Lines) (width : Dots) (k d : ℕ) → k < width .0
+    → getD (lineOf words font s frame line width) k d ≡ dotOf words font s frame line k
+line-dot words font s frame line width k d lt = tabulate-at (dotOf words font s frame line) (width .0) k d lt
+
+-- a smaller width cuts the line and changes no dot of it
+pub line-cut : (words font : List ℕ) (s : Settings) (frame : ℕ) (line : Lines) (less width : Dots) → less .0 ≤ width .0
+    → take (less .0) (lineOf words font s frame line width) ≡ lineOf words font s frame line less
+line-cut words font s frame line less width le = tabulate-cut (dotOf words font s frame line) (less .0) (width .0) le
+
 -- two fonts have the same rows of each character shown
 abbrev pub SameGlyph : List ℕ → List ℕ → Shown → Type 0
 SameGlyph f g (glyph colour code blink) = (l : ℕ) → l < 18 → rowOf f code l ≡ rowOf g code l
@@ -68,7 +79,7 @@ module _ (f g : List ℕ) (v : View) (k : ℕ) where
       rw (same ((v .line .0 - c .top .0) / c .size) (share-below 18 (c .size) (v .line .0) (c .top .0) (h .0 .0) (h .0 .1)))
   same-shown c blank same in-cell = refl
 
-  pub same-dot : (cs : List Cell) (other : ℕ) → Agree f g cs → firstShown (has v k) (cellDot f v k) cs other ≡ firstShown (has v k) (cellDot g v k) cs other
+  same-dot : (cs : List Cell) (other : ℕ) → Agree f g cs → firstShown (has v k) (cellDot f v k) cs other ≡ firstShown (has v k) (cellDot g v k) cs other
   unfolding firstShown
   same-dot [] other agree = refl
   same-dot (c ∷ cs) other agree = go (has v k c) (same-shown c (c .shows) (agree .0)) (same-dot cs other (agree .1))

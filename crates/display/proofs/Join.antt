@@ -1,24 +1,22 @@
 -- Each dot lies in at most one cell of a screen, so painting the cells in turn shows at each dot what the cell that has it shows: the
 -- painter's steps are joined to the account. The pen, once past a dot, stays past it.
 -- Assumes nothing.
-use mathlib.Core.Path.{_≡_, refl, sym, ap, _∙_}
+use mathlib.Core.Path.{_≡_, refl}
 use mathlib.Core.Bool.{Bool, true, false}
-use mathlib.Core.Logic.{_⊎_, inl, inr}
 use mathlib.Core.List.{List, [], _∷_, _++_}
-use Prim.Native.Nat.{ℕ, _+_, _*_, _<_, _≤_}
+use Prim.Native.Nat.{ℕ, _+_, _≤_}
 use native.Mathlib.Omega.{arith}
 use Rattle.laws.specs.Pick.{pick}
-use Rattle.laws.specs.Lines.{firstShown, lastShown, holders}
+use Rattle.laws.specs.Lines.{firstShown, holders}
 use Rattle.laws.proofs.Holders.{last-none, last-first}
 use Rattle.laws.proofs.Placing.{Past, past-none, past-cell, past-right, past-below}
 use Rattle.display.specs.declared.Dots.{Dots}
-use Rattle.display.specs.declared.Lines.{Lines}
 use Rattle.display.specs.declared.View.{View}
 use Rattle.display.specs.declared.Pen.{Pen}
 use Rattle.display.specs.declared.Kind.{Kind}
 use Rattle.display.specs.declared.Kind.the-variants.{Character, Space, Return, End}
 use Rattle.display.specs.Words.{kindOf}
-use Rattle.display.specs.Cells.{Cell, kindCell, rightOf, belowRow, rowPen, afterWord, goesOn, cellsFrom}
+use Rattle.display.specs.Cells.{kindCell, rightOf, belowRow, rowPen, afterWord, goesOn, cellsFrom}
 use Rattle.display.specs.Picture.{has, cellDot}
 use Rattle.display.specs.Steps.{painted}
 

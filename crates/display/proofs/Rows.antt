@@ -1,9 +1,8 @@
 -- A row above the line shows nothing on it: the words up to its return may be passed over. And the loop that looks for the return.
 -- Assumes nothing.
 use mathlib.Core.Path.{_≡_, refl, sym, ap, _∙_}
-use mathlib.Core.Bool.{Bool, true, false}
 use mathlib.Core.List.{List, [], _∷_, _++_}
-use Prim.Native.Nat.{ℕ, zero, suc, _+_, _*_, _<_, _≤_}
+use Prim.Native.Nat.{ℕ, _+_, _*_, _<_, _≤_}
 use native.Mathlib.Numerals.{add-one}
 use native.Mathlib.Omega.{arith}
 use lib.ListN.{length, drop, getD, drop-of-length-le}
@@ -15,13 +14,12 @@ use Rattle.laws.proofs.Placing.{cell-above}
 use Rattle.display.specs.declared.Dots.{Dots}
 use Rattle.display.specs.declared.Lines.{Lines}
 use Rattle.display.specs.declared.View.{View}
-use Rattle.display.specs.declared.Pen.{Pen}
 use Rattle.display.specs.declared.Kind.{Kind}
 use Rattle.display.specs.declared.Kind.the-variants.{Character, Space, Return, End}
 use Rattle.display.specs.declared.RowEnd.{RowEnd}
 use Rattle.display.specs.declared.RowEnd.the-variants.{Over, Next}
 use Rattle.display.specs.Words.{kindOf}
-use Rattle.display.specs.Cells.{glyph, blank, kindCell, rightOf, belowRow, rowPen, afterWord, goesOn, cellsFrom}
+use Rattle.display.specs.Cells.{glyph, blank, kindCell, belowRow, rowPen, afterWord, goesOn, cellsFrom}
 use Rattle.display.specs.Picture.{has, cellDot}
 use Rattle.display.specs.Steps.{painted, later, endAt, rowEnd}
 

@@ -1,17 +1,17 @@
--- A span of one byte, one dot more each turn; and what a cell's bits show, stretched over its dots, is what the account says of the cell.
+-- Dots painted one after the other; and what a cell's bits show, stretched over its dots, is what the account says of the cell.
 -- Assumes nothing.
-use mathlib.Core.Path.{_≡_, refl, sym, ap, _∙_}
+use mathlib.Core.Path.{_≡_, refl, ap, _∙_}
 use mathlib.Core.Bool.{Bool, true, false}
 use mathlib.Core.List.{List}
-use Prim.Native.Nat.{ℕ, _+_, _-_, _*_, _/_, _%_, _^_, _<_, _≤_}
+use Prim.Native.Nat.{ℕ, _+_, _-_, _*_, _/_, _^_, _<_, _≤_}
 use native.Mathlib.Nat.{zero-div}
 use native.Mathlib.Omega.{arith}
 use Rattle.laws.specs.Pick.{pick, both}
 use lib.ListN.{length, set}
 use Rattle.laws.specs.Lines.{overlay, lastShown}
 use Rattle.laws.specs.Placing.{spanHas, patched}
-use Rattle.laws.proofs.Overlay.{overlay-store}
-use Rattle.laws.proofs.Patched.{patched-here, patched-other}
+use Rattle.laws.proofs.Overlay.{overlay-leaves, overlay-store}
+use Rattle.laws.proofs.Patched.{patched-none, patched-here, patched-other}
 use Rattle.laws.proofs.Placing.{cell-in-row}
 use Rattle.font.specs.Font.{rowOf, bitSet}
 use Rattle.display.specs.declared.Dots.{Dots}
@@ -22,19 +22,25 @@ use Rattle.display.specs.Cells.{kindCell}
 use Rattle.display.specs.Picture.{unlitByte, inColour, steadyOr, shownDot}
 use Rattle.display.specs.Steps.{painted, shownBits, bitByte, stretched}
 
--- one dot more of a span of one byte
-pub span-more : (from i byte : ℕ) (out₀ out : List ℕ) → out ≡ overlay (patched from i (λ d. byte)) out₀ → from + i < length out₀
-    → set out (from + i) byte ≡ overlay (patched from (i + 1) (λ d. byte)) out₀
-span-more from i byte out₀ out e lt =
-    ap (λ (t : List ℕ). set t (from + i) byte) e
-    ∙ overlay-store (patched from i (λ d. byte)) (patched from (i + 1) (λ d. byte)) (from + i) byte out₀ lt
-    (λ a. patched-here from (λ d. byte) i a) (λ k a ne. patched-other from (λ d. byte) i k a ne)
+-- one dot more is painted
+pub patch-more : (from i : ℕ) (shows : ℕ → ℕ) (out₀ out : List ℕ) → out ≡ overlay (patched from i shows) out₀ → from + i < length out₀
+    → set out (from + i) (shows i) ≡ overlay (patched from (i + 1) shows) out₀
+patch-more from i shows out₀ out e lt =
+    ap (λ (t : List ℕ). set t (from + i) (shows i)) e
+    ∙ overlay-store (patched from i shows) (patched from (i + 1) shows) (from + i) (shows i) out₀ lt
+    (λ a. patched-here from shows i a) (λ k a ne. patched-other from shows i k a ne)
+
+-- the first dot
+pub patch-first : (from : ℕ) (shows : ℕ → ℕ) (out₀ : List ℕ) → from < length out₀ → set out₀ from (shows 0) ≡ overlay (patched from 1 shows) out₀
+patch-first from shows out₀ lt =
+    ap (λ (n : ℕ). set out₀ n (shows 0)) (omega arith)
+    ∙ patch-more from 0 shows out₀ out₀ (overlay-leaves (patched from 0 shows) out₀ (λ k a l. patched-none from shows k a)) (omega arith)
 
 no-bits : (j : ℕ) → bitSet 0 j ≡ false
 no-bits j = simp (zero-div (2 ^ (11 - j)))
 
 -- bits blinked out show as a row whose dots are all unlit
-pub shown-bits-dot : (shown : Bool) (row j on off : ℕ) → bitByte (pick shown row 0) j on off ≡ pick (both shown (bitSet row j)) on off
+shown-bits-dot : (shown : Bool) (row j on off : ℕ) → bitByte (pick shown row 0) j on off ≡ pick (both shown (bitSet row j)) on off
 shown-bits-dot true row j on off = refl
 shown-bits-dot false row j on off = simp (no-bits j)
 

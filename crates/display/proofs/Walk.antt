@@ -1,9 +1,9 @@
 -- One step of the walk over the words: the cell of the first word is painted, then those of the others from the next pen on.
 -- Assumes nothing.
 use mathlib.Core.Path.{_≡_, refl, sym, ap, subst, _∙_}
-use mathlib.Core.Bool.{Bool, true, false}
+use mathlib.Core.Bool.{Bool, true}
 use mathlib.Core.List.{List, [], _∷_, _++_, append-nil}
-use Prim.Native.Nat.{ℕ, _+_, _-_, _*_, _<_, _≤_}
+use Prim.Native.Nat.{ℕ, _+_, _-_, _*_, _<_}
 use native.Mathlib.Omega.{arith}
 use lib.ListN.{length, take, drop, getD, length-drop}
 use lib.Seq.{take-all}
@@ -11,6 +11,7 @@ use Rattle.laws.specs.Pick.{pick}
 use Rattle.laws.specs.Lines.{overlay, lastShown}
 use Rattle.laws.proofs.Overlay.{overlay-leaves, overlay-same, overlay-twice}
 use Rattle.laws.proofs.Holders.{last-append}
+use Rattle.laws.proofs.Placing.{room-step}
 use Rattle.display.specs.declared.Dots.{Dots}
 use Rattle.display.specs.declared.Lines.{Lines}
 use Rattle.display.specs.declared.View.{View}
@@ -31,12 +32,12 @@ pub part-length : (ws : List ℕ) (read : ℕ) → length (take (length ws - rea
 part-length ws read = ap length (part-is ws read) ∙ length-drop read ws
 
 -- room is left for the words that are left
-pub room-after : (v : View) (p : Pen) (kd : Kind) (n m : ℕ) → Room v p n → n ≡ m + 1 → Sound kd → Room v (afterWord (v .left) kd p) m
+room-after : (v : View) (p : Pen) (kd : Kind) (n m : ℕ) → Room v p n → n ≡ m + 1 → Sound kd → Room v (afterWord (v .left) kd p) m
 unfolding afterWord
 room-after v p (Character a b c) n m r e s =
-    record { start = omega arith; right = omega arith; down = omega arith; some = omega arith; size = omega arith; colour = omega arith }
+    record { start = omega arith; right = room-step 65536 48 (12 * p .size) (p .x .0) m (omega arith) (omega arith); down = omega arith; some = omega arith; size = omega arith; colour = omega arith }
 room-after v p (Space a) n m r e s =
-    record { start = omega arith; right = omega arith; down = omega arith; some = omega arith; size = omega arith; colour = omega arith }
+    record { start = omega arith; right = room-step 65536 48 (12 * p .size) (p .x .0) m (omega arith) (omega arith); down = omega arith; some = omega arith; size = omega arith; colour = omega arith }
 room-after v p (Return a b) n m r e s =
     record { start = omega arith; right = omega arith; down = omega arith; some = omega arith; size = omega arith; colour = omega arith }
 room-after v p End n m r e s =

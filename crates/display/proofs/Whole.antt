@@ -1,12 +1,12 @@
 -- What a call leaves: an accepted one the line and the bytes after it, a refused one all as it was.
 -- Assumes nothing.
-use mathlib.Core.Path.{_≡_, refl, sym, ap, _∙_}
+use mathlib.Core.Path.{_≡_, ap, _∙_}
 use mathlib.Core.Bool.{Bool, true, false}
 use mathlib.Core.List.{List, [], _∷_, _++_}
 use mathlib.Core.Logic.{⊎-elim}
 use native.Mathlib.Omega.{arith}
 use types.Run.{OneOf}
-use Prim.Native.Nat.{ℕ, _*_, _≤_}
+use Prim.Native.Nat.{ℕ, _≤_}
 use borrow.Author.Tests.{eq-eqb, ne-eqb}
 use denote.Enum.Declared.{tagOf}
 use lib.ListN.{length, take, drop, replicate}
@@ -16,12 +16,11 @@ use Rattle.laws.specs.Lines.{tabulate}
 use Rattle.laws.proofs.Tabulate.{tabulate-ext, tabulate-constant}
 use Rattle.display.specs.declared.Dots.{Dots}
 use Rattle.display.specs.declared.Lines.{Lines}
-use Rattle.display.specs.declared.View.{View}
 use Rattle.display.specs.declared.Settings.{Settings}
 use Rattle.display.specs.declared.Painted.{Painted}
 use Rattle.display.specs.declared.Painted.the-variants.{Done, BadSetting, ReservedRatio, BadWords, BadFont, OffScreen, NoRoom}
 use Rattle.display.specs.Picture.{litIn, dotAt}
-use Rattle.display.specs.Painting.{leftOf, topOf, screenOf, viewOf, dotOf, lineOf, answerOf, leftBy, said}
+use Rattle.display.specs.Painting.{leftOf, screenOf, viewOf, dotOf, lineOf, answerOf, leftBy, said}
 use Rattle.display.proofs.Painted.{the-type}
 
 -- any other case than Done has another number than 0

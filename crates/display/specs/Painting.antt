@@ -42,16 +42,29 @@ dotOf words font s frame line k = pick (s .on) (dotAt font (viewOf s frame line)
 abbrev pub lineOf : List ℕ → List ℕ → Settings → ℕ → Lines → Dots → List ℕ
 lineOf words font s frame line width = tabulate (width .0) (dotOf words font s frame line)
 
+-- the words of a screen, the largest word, line and width
+abbrev pub wordCount : ℕ
+wordCount = 64
+
+abbrev pub mostWord : ℕ
+mostWord = 1023
+
+abbrev pub mostLine : ℕ
+mostLine = 1023
+
+abbrev pub mostWidth : ℕ
+mostWidth = 1024
+
 -- what the table asks of each argument
 abbrev pub inRange : Settings → Bool
 inRange s =
     both (leb (s .mode) 3) (both (leb (s .colour) 7) (both (leb (s .h) 63) (both (leb (s .v) 63) (both (leb (s .ratio) 3) (leb (s .frequency) 3)))))
 
 abbrev pub areWords : List ℕ → Bool
-areWords words = both (eqb (length words) 64) (within 1023 words)
+areWords words = both (eqb (length words) wordCount) (within mostWord words)
 
 abbrev pub onScreen : Lines → Dots → Bool
-onScreen line width = both (leb (line .0) 1023) (leb (width .0) 1024)
+onScreen line width = both (leb (line .0) mostLine) (leb (width .0) mostWidth)
 
 -- what the call answers: the first number that applies, whatever the display's switch says
 unfoldable pub answerOf : List ℕ → List ℕ → Settings → Lines → Dots → ℕ → Said

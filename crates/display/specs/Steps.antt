@@ -1,10 +1,9 @@
 -- What the painter's own steps do, for the contracts of its private functions: no part of the account. proofs/Join.antt joins it to the
 -- account's list of cells.
 -- Assumes nothing.
-use Prim.Native.Nat.{ℕ, suc, _+_, _-_, _*_, _/_, _≤_, _<_}
+use Prim.Native.Nat.{ℕ, suc, _+_, _-_, _*_, _/_, _≤_}
 use mathlib.Core.List.{List, [], _∷_}
-use mathlib.Core.Bool.{Bool, true, false}
-use lib.ListN.{length}
+use mathlib.Core.Bool.{Bool}
 use Rattle.laws.specs.Pick.{pick}
 use Rattle.laws.specs.Lines.{lastShown}
 use Rattle.laws.specs.Placing.{patched}

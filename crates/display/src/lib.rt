@@ -2,13 +2,13 @@
 ghost use mathlib.Core.Path.{_≡_};
 ghost use Prim.Native.Nat.{ℕ, _+_, _*_, _≤_, _<_};
 ghost use lib.ListN.{length, replicate};
-ghost use Rattle.laws.specs.Pick.{both};
 ghost use Rattle.laws.specs.Lines.{overlay, tabulate};
 ghost use Rattle.laws.specs.Placing.{patched};
+ghost use Rattle.font.specs.Font.{fontRows, cellRows, cellColumns};
 ghost use Rattle.display.specs.Words.{kindOf};
 ghost use Rattle.display.specs.Cells.{placedWord, cellOf, rightOf, belowRow, rowPen, cellsFrom, cells};
 ghost use Rattle.display.specs.Picture.{unlitByte, outsideByte, divisorOf, litIn, dotAt};
-ghost use Rattle.display.specs.Painting.{answerOf, leftBy, said, inRange};
+ghost use Rattle.display.specs.Painting.{answerOf, leftBy, said, inRange, wordCount};
 ghost use Rattle.display.specs.Steps.{painted, shownBits, bitByte, stretched, rowEnd, Sound, EndSound, Room};
 
 // Dots are counted in OSD clocks, lines in scan lines; one is never passed for the other.
@@ -202,7 +202,7 @@ fn in_range(s: Settings) -> bool
 
 // The line with the display on: all outside, then the cells over it.
 fn paint_line(words: &[u16], font: &[u16], view: View, top: Lines, start: u8, out: &mut [u8])
-    requires { ⌜ (length (now words) ≡ 64) × ((length (now font) ≡ 1116) × ((view .left .0 ≤ 252) × ((top .0 ≤ 252) × (start ≤ 7)))) ⌝ }
+    requires { ⌜ (length (now words) ≡ wordCount) × ((length (now font) ≡ fontRows) × ((view .left .0 ≤ 252) × ((top .0 ≤ 252) × (start ≤ 7)))) ⌝ }
     ensures { λ _. ⌜ now (out .exit) ≡ tabulate (length (now (out .entry))) (dotAt (now (font .entry)) view start (cells (view .left) top start (now (words .entry)))) ⌝ }
 {
     fill(out, outside(view.mode, start));
@@ -219,7 +219,7 @@ fn row_step(
     background: u8,
     out: &mut [u8],
 )
-    requires { ⌜ (length (now font) ≡ 1116) × Room view (rowPen (view .left) y size background) (length (now words)) ⌝ }
+    requires { ⌜ (length (now font) ≡ fontRows) × Room view (rowPen (view .left) y size background) (length (now words)) ⌝ }
     ensures { λ _. ⌜ now (out .exit) ≡ overlay (painted (now (font .entry)) view (cellsFrom (view .left) (now (words .entry)) (rowPen (view .left) y size background))) (now (out .entry)) ⌝ }
 {
     let line = view.line.0;
@@ -258,7 +258,7 @@ fn row_step(
 
 // The first of these words stands at the pen, in the row that the line cuts.
 fn cell_step(words: &[u16], font: &[u16], view: View, pen: Pen, out: &mut [u8])
-    requires { ⌜ (length (now font) ≡ 1116) × (Room view pen (length (now words)) × ((pen .y .0 ≤ view .line .0) × (view .line .0 < pen .y .0 + 18 * pen .size))) ⌝ }
+    requires { ⌜ (length (now font) ≡ fontRows) × (Room view pen (length (now words)) × ((pen .y .0 ≤ view .line .0) × (view .line .0 < pen .y .0 + cellRows * pen .size))) ⌝ }
     ensures { λ _. ⌜ now (out .exit) ≡ overlay (painted (now (font .entry)) view (cellsFrom (view .left) (now (words .entry)) pen)) (now (out .entry)) ⌝ }
 {
     if words.len() == 0 {
@@ -383,7 +383,7 @@ fn decode(word: u16) -> Kind
 
 // Paints the cell of a word in the row that the line cuts; `background` is the one before the word.
 fn draw(cell: Placed, background: u8, font: &[u16], view: View, out: &mut [u8])
-    requires { ⌜ (length (now font) ≡ 1116) × (Sound (cell .kind) × ((background ≤ 7) × (((1 ≤ cell .size) × (cell .size ≤ 4)) × ((cell .x .0 ≤ 65536) × ((cell .y .0 ≤ view .line .0) × (view .line .0 < cell .y .0 + 18 * cell .size)))))) ⌝ }
+    requires { ⌜ (length (now font) ≡ fontRows) × (Sound (cell .kind) × ((background ≤ 7) × (((1 ≤ cell .size) × (cell .size ≤ 4)) × ((cell .x .0 ≤ 65536) × ((cell .y .0 ≤ view .line .0) × (view .line .0 < cell .y .0 + cellRows * cell .size)))))) ⌝ }
     ensures { λ _. ⌜ now (out .exit) ≡ overlay (painted (now (font .entry)) view (cellOf cell background)) (now (out .entry)) ⌝ }
 {
     let kind = cell.kind;
@@ -414,7 +414,7 @@ fn draw(cell: Placed, background: u8, font: &[u16], view: View, out: &mut [u8])
 
 // The bits of a character's row that the line cuts: none where it is blinked out.
 fn shown_bits(font: &[u16], view: View, y: Lines, size: usize, code: usize, blink: bool) -> u16
-    requires { ⌜ (length (now font) ≡ 1116) × ((code ≤ 61) × ((1 ≤ size) × ((y .0 ≤ view .line .0) × (view .line .0 < y .0 + 18 * size)))) ⌝ }
+    requires { ⌜ (length (now font) ≡ fontRows) × ((code ≤ 61) × ((1 ≤ size) × ((y .0 ≤ view .line .0) × (view .line .0 < y .0 + cellRows * size)))) ⌝ }
     ensures { λ r. ⌜ r ≡ shownBits (now (font .entry)) view y size code blink ⌝ }
 {
     if blink {
@@ -427,46 +427,60 @@ fn shown_bits(font: &[u16], view: View, y: Lines, size: usize, code: usize, blin
     font[at]
 }
 
-// A cell's row of 12 bits over the dots from x on. Each size has its own call, so that a column compiles to one store.
+// A cell's row of 12 bits over the dots from x on, each bit `size` dots wide, cut where the line ends.
 fn stretch(out: &mut [u8], x: Dots, size: usize, bits: u16, on: u8, off: u8)
     requires { ⌜ ((1 ≤ size) × (size ≤ 4)) × (x .0 ≤ 65536) ⌝ }
-    ensures { λ _. ⌜ now (out .exit) ≡ overlay (stretched (x .0) (12 * size) size bits on off) (now (out .entry)) ⌝ }
+    ensures { λ _. ⌜ now (out .exit) ≡ overlay (stretched (x .0) (cellColumns * size) size bits on off) (now (out .entry)) ⌝ }
 {
-    match size {
-        1 => stretch_by(out, x, 1, bits, on, off),
-        2 => stretch_by(out, x, 2, bits, on, off),
-        3 => stretch_by(out, x, 3, bits, on, off),
-        _ => stretch_by(out, x, 4, bits, on, off),
+    if x.0 + CELL_COLUMNS * size <= out.len() {
+        stretch_whole(out, x, size, bits, on, off)
+    } else {
+        stretch_cut(out, x, size, bits, on, off)
     }
 }
 
-fn stretch_by(out: &mut [u8], x: Dots, size: usize, bits: u16, on: u8, off: u8)
-    requires { ⌜ ((1 ≤ size) × (size ≤ 4)) × (x .0 ≤ 65536) ⌝ }
-    ensures { λ _. ⌜ now (out .exit) ≡ overlay (stretched (x .0) (12 * size) size bits on off) (now (out .entry)) ⌝ }
+// A cell that the line has whole: column by column, with no test of the line's end and no division.
+fn stretch_whole(out: &mut [u8], x: Dots, size: usize, bits: u16, on: u8, off: u8)
+    requires { ⌜ ((1 ≤ size) × (size ≤ 4)) × (x .0 + cellColumns * size ≤ length (now out)) ⌝ }
+    ensures { λ _. ⌜ now (out .exit) ≡ overlay (stretched (x .0) (cellColumns * size) size bits on off) (now (out .entry)) ⌝ }
 {
     let from = x.0;
     let mut j = 0;
     while j < CELL_COLUMNS {
-        span(out, from + j * size, size, bit_byte(bits, j, on, off));
+        column(out, from + j * size, size, bit_byte(bits, j, on, off));
         j += 1;
     }
 }
 
-// n dots of one byte from `from` on, cut where the line ends. The loop for dots that all fit has n turns, so that it compiles to one store.
-fn span(out: &mut [u8], from: usize, n: usize, byte: u8)
-    requires { ⌜ (from ≤ 131072) × (n ≤ 4) ⌝ }
-    ensures { λ _. ⌜ now (out .exit) ≡ overlay (patched from n (λ d. byte)) (now (out .entry)) ⌝ }
+// One to four dots of one byte.
+fn column(out: &mut [u8], from: usize, size: usize, byte: u8)
+    requires { ⌜ ((1 ≤ size) × (size ≤ 4)) × (from + size ≤ length (now out)) ⌝ }
+    ensures { λ _. ⌜ now (out .exit) ≡ overlay (patched from size (λ d. byte)) (now (out .entry)) ⌝ }
 {
-    let mut i = 0;
-    if from + n <= out.len() {
-        while i < n {
-            out[from + i] = byte;
-            i += 1;
-        }
+    out[from] = byte;
+    if size == 1 {
         return;
     }
+    out[from + 1] = byte;
+    if size == 2 {
+        return;
+    }
+    out[from + 2] = byte;
+    if size == 3 {
+        return;
+    }
+    out[from + 3] = byte;
+}
+
+// A cell that the line has a part of, or nothing: dot by dot.
+fn stretch_cut(out: &mut [u8], x: Dots, size: usize, bits: u16, on: u8, off: u8)
+    requires { ⌜ ((1 ≤ size) × (size ≤ 4)) × ((x .0 ≤ 65536) × (length (now out) < x .0 + cellColumns * size)) ⌝ }
+    ensures { λ _. ⌜ now (out .exit) ≡ overlay (stretched (x .0) (cellColumns * size) size bits on off) (now (out .entry)) ⌝ }
+{
+    let from = x.0;
+    let mut i = 0;
     while from + i < out.len() {
-        out[from + i] = byte;
+        out[from + i] = bit_byte(bits, i / size, on, off);
         i += 1;
     }
 }

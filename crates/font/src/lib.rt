@@ -1,5 +1,7 @@
 // What a font is: 62 cells of 18 rows of 12 bits, and the tests of rows that painter and writer share.
 ghost use mathlib.Core.Path.{_≡_};
+ghost use mathlib.Core.Bool.{true};
+ghost use Prim.Native.Nat.{ℕ, _≤_};
 ghost use Rattle.laws.specs.Within.{within};
 ghost use Rattle.font.specs.Font.{isFont};
 
@@ -18,10 +20,13 @@ pub fn is_font(rows: &[u16]) -> bool
     all_within(rows, MOST_ROW)
 }
 
-// Whether no number is above the given one. It keeps the largest and tests once, which compiles to wide instructions.
+// Whether no number is above the given one.
 pub fn all_within(numbers: &[u16], most: u16) -> bool
     ensures { λ r. ⌜ r ≡ within most (now (numbers .entry)) ⌝ }
 {
+    if all_bits(numbers) <= most {
+        return true;
+    }
     let mut top: u16 = 0;
     let mut i = 0;
     while i < numbers.len() {
@@ -32,4 +37,17 @@ pub fn all_within(numbers: &[u16], most: u16) -> bool
         i += 1;
     }
     top <= most
+}
+
+// The bits of all numbers together, which are at least each of them: for a bound of so many bits they decide, and they are quickly had.
+fn all_bits(numbers: &[u16]) -> u16
+    ensures { λ r. ⌜ ((most : ℕ) → r ≤ most → within most (now (numbers .entry)) ≡ true) ⌝ }
+{
+    let mut all: u16 = 0;
+    let mut i = 0;
+    while i < numbers.len() {
+        all = all | numbers[i];
+        i += 1;
+    }
+    all
 }

@@ -1,9 +1,9 @@
 -- Where at most one of a list has a place, it does not matter whether the first or the last of those that have it is shown.
 -- Assumes nothing.
-use mathlib.Core.Path.{_≡_, refl, sym, ap, _∙_}
+use mathlib.Core.Path.{_≡_, refl, ap}
 use mathlib.Core.Bool.{Bool, true, false}
 use mathlib.Core.List.{List, [], _∷_, _++_}
-use Prim.Native.Nat.{ℕ, suc, _+_, _≤_}
+use Prim.Native.Nat.{ℕ, _+_, _≤_}
 use native.Mathlib.Omega.{arith}
 use Rattle.laws.specs.Pick.{pick}
 use Rattle.laws.specs.Lines.{firstShown, lastShown, holders}
@@ -47,8 +47,3 @@ module _ {A : Type 0} (has : A → Bool) (shows : A → ℕ) where
   unfolding lastShown
   last-append [] ds old = refl
   last-append (c ∷ cs) ds old = last-append cs ds (pick (has c) (shows c) old)
-
-pub holders-append : {A : Type 0} (has : A → Bool) (cs ds : List A) → holders has (cs ++ ds) ≡ holders has cs + holders has ds
-unfolding holders
-holders-append has [] ds = omega arith
-holders-append has (c ∷ cs) ds = rw (holders-append has cs ds) (omega arith)

@@ -1,7 +1,7 @@
 -- A loop that puts f in place of each number, one more each turn: the first i are done, the others are as they were.
 -- Assumes nothing.
-use Prim.Native.Nat.{ℕ, zero, suc, _+_, _<_, _≤_}
-use mathlib.Core.Path.{_≡_, refl, ap, _∙_}
+use Prim.Native.Nat.{ℕ, zero, suc, _+_, _<_}
+use mathlib.Core.Path.{_≡_, refl, ap}
 use mathlib.Core.List.{List, [], _∷_, _++_, map, append-nil}
 use native.Mathlib.Numerals.{add-one}
 use native.Mathlib.Omega.{arith}
@@ -18,7 +18,7 @@ module _ (f : ℕ → ℕ) where
   mapped-length (suc i) (a ∷ s) = ap suc (mapped-length i s)
 
   -- the next number is as it was
-  pub mapped-at : (i : ℕ) (s : List ℕ) → getD (mapped f i s) i 0 ≡ getD s i 0
+  mapped-at : (i : ℕ) (s : List ℕ) → getD (mapped f i s) i 0 ≡ getD s i 0
   mapped-at zero s = refl
   mapped-at (suc i) [] = refl
   mapped-at (suc i) (a ∷ s) = mapped-at i s

@@ -1,11 +1,11 @@
 -- Painting dots from x on: one more, some more of one byte, and cut where the line ends.
 -- Assumes nothing.
-use mathlib.Core.Path.{_≡_, refl, sym, ap, _∙_}
+use mathlib.Core.Path.{_≡_, sym, ap, _∙_}
 use mathlib.Core.Logic.{⊎-elim}
 use Prim.Native.Nat.{ℕ, _+_, _-_, _<_, _≤_}
 use native.Mathlib.Nat.{add-sub-cancel-left}
 use native.Mathlib.Omega.{arith}
-use Rattle.laws.specs.Placing.{spanHas, patched}
+use Rattle.laws.specs.Placing.{patched}
 use Rattle.laws.proofs.Scan.{split}
 use Rattle.laws.proofs.Placing.{span-in, span-before, span-after}
 
@@ -18,7 +18,7 @@ module _ (x : ℕ) (shows : ℕ → ℕ) where
   unfolding patched
   patched-in n k a le lt = simp (span-in x n k le lt)
 
-  pub patched-before : (n k a : ℕ) → k < x → patched x n shows k a ≡ a
+  patched-before : (n k a : ℕ) → k < x → patched x n shows k a ≡ a
   unfolding patched
   patched-before n k a lt = simp (span-before x n k lt)
 

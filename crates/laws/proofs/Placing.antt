@@ -21,11 +21,11 @@ pub both-right : (s t : Bool) → both s t ≡ true → t ≡ true
 both-right true t e = e
 both-right false t e = let n : _≡_ {A = ℕ} 0 1 = cc in absurd (omega arith)
 
-pub none-left : (s t : Bool) → s ≡ false → both s t ≡ false
+none-left : (s t : Bool) → s ≡ false → both s t ≡ false
 none-left true t e = let n : _≡_ {A = ℕ} 0 1 = cc in absurd (omega arith)
 none-left false t e = refl
 
-pub none-right : (s t : Bool) → t ≡ false → both s t ≡ false
+none-right : (s t : Bool) → t ≡ false → both s t ≡ false
 none-right true t e = e
 none-right false t e = refl
 

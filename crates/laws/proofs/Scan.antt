@@ -1,13 +1,14 @@
 -- A scan that keeps the largest number met: `within` of the rest and of that number is `within` of the whole.
 -- Assumes nothing.
 use Prim.Native.Nat.{ℕ, _+_, _<_, _≤_}
-use mathlib.Core.Path.{_≡_, refl, sym}
+use mathlib.Core.Path.{_≡_, refl}
 use mathlib.Core.Bool.{Bool, true, false}
 use mathlib.Core.Logic.{_⊎_, inl, inr, ⊎-elim}
-use mathlib.Core.List.{List, [], _∷_}
+use mathlib.Core.List.{List}
 use native.Mathlib.Numerals.{add-one}
 use native.Mathlib.Omega.{arith}
 use borrow.Author.Tests.{le-leb, lt-leb, leb-true, leb-false}
+use lib.Bits.{bitOr, or-add-and, and-le-l, and-le-r}
 use lib.Dec.{leb}
 use lib.ListN.{length, drop, getD}
 use lib.Seq.{drop-cons, drop-length}
@@ -22,7 +23,7 @@ pub split : (a b : ℕ) → (a ≤ b) ⊎ (b < a)
 split a b = split-by a b (leb a b) refl
 
 -- two numbers are at most another where the larger is
-pub both-most : (a b most : ℕ) (rest : Bool) → a ≤ b → both (leb b most) rest ≡ both (leb a most) (both (leb b most) rest)
+both-most : (a b most : ℕ) (rest : Bool) → a ≤ b → both (leb b most) rest ≡ both (leb a most) (both (leb b most) rest)
 both-most a b most rest le =
     ⊎-elim (λ h. simp (le-leb b most h, le-leb a most (omega arith))) (λ h. ⊎-elim (λ g. simp (lt-leb b most h, le-leb a most g)) (λ g. simp (lt-leb b most h, lt-leb a most g)) (split a most)) (split b most)
 
@@ -37,6 +38,10 @@ module _ (most : ℕ) (s : List ℕ) (i top : ℕ) (h : i < length s) where
   unfolding within
   within-cons = rw (add-one, drop-cons s i 0 h)
 
+  -- the next number is within the bound
+  pub within-passed : getD s i 0 ≤ most → within most (drop (i + 1) s) ≡ within most (drop i s)
+  within-passed le = rw within-cons (simp (le-leb (getD s i 0) most le))
+
   -- the next number is the largest so far
   pub within-larger : top ≤ getD s i 0 → both (leb (getD s i 0) most) (within most (drop (i + 1) s)) ≡ both (leb top most) (within most (drop i s))
   within-larger le = rw within-cons (both-most top (getD s i 0) most _ le)
@@ -44,6 +49,14 @@ module _ (most : ℕ) (s : List ℕ) (i top : ℕ) (h : i < length s) where
   -- it is not
   pub within-kept : getD s i 0 ≤ top → both (leb top most) (within most (drop (i + 1) s)) ≡ both (leb top most) (within most (drop i s))
   within-kept le = rw (within-cons, both-turn) (both-most (getD s i 0) top most _ le)
+
+-- the bits of two numbers together are at least each of them
+pub or-above : (a b most : ℕ) → bitOr a b ≤ most → (a ≤ most) × (b ≤ most)
+or-above a b most le = (omega (arith, or-add-and a b, and-le-r a b), omega (arith, or-add-and a b, and-le-l a b))
+
+pub within-none : (most : ℕ) (s : List ℕ) → within most (drop (length s) s) ≡ true
+unfolding within
+within-none most s = rw (drop-length s)
 
 -- nothing is left to scan
 pub within-all : (most : ℕ) (s : List ℕ) (top : ℕ) → both (leb top most) (within most (drop (length s) s)) ≡ leb top most

@@ -1,21 +1,13 @@
 -- Laws of `tabulate`, each by induction on the width. A line cut at a smaller width is the start of the wider one.
 -- Assumes nothing.
 use mathlib.Core.Path.{_≡_, refl, ap, _∙_}
-use mathlib.Core.List.{List, [], _∷_}
+use mathlib.Core.List.{List, _∷_}
 use Prim.Native.Nat.{ℕ, zero, suc, _+_, _<_, _≤_}
 use native.Mathlib.Omega.{arith}
-use lib.ListN.{length, take, getD, replicate}
+use lib.ListN.{take, getD, replicate}
 use Rattle.laws.specs.Lines.{tabulateFrom, tabulate}
 
 module _ (f : ℕ → ℕ) where
-  length-from : (b n : ℕ) → length (tabulateFrom f b n) ≡ n
-  unfolding tabulateFrom
-  length-from b zero = refl
-  length-from b (suc n) = ap suc (length-from (suc b) n)
-
-  pub tabulate-length : (n : ℕ) → length (tabulate n f) ≡ n
-  tabulate-length n = length-from 0 n
-
   cut-from : (b m n : ℕ) → m ≤ n → take m (tabulateFrom f b n) ≡ tabulateFrom f b m
   unfolding tabulateFrom
   cut-from b zero n le = refl

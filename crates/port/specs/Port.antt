@@ -3,7 +3,7 @@
 -- handed over, so a port that a host made up is as good as any.
 -- Assumes nothing.
 use Prim.Native.Nat.{ℕ, _+_, _*_, _%_, _^_}
-use mathlib.Core.List.{List, map}
+use mathlib.Core.List.{map}
 use lib.ListN.{set, replicate}
 use Rattle.port.specs.declared.Port.{Port}
 

@@ -56,7 +56,8 @@ pub fn write_character(port: Port, byte: u8) -> Port
     let mut after = kept(port);
     let code = byte % SIX_BITS;
     let at = after.address as usize;
-    after.words[at] = code as u16 * FOUR_BITS as u16 + after.attribute as u16;
+    let word = code as u16 * FOUR_BITS as u16 + after.attribute as u16;
+    after.words[at] = word;
     after.address = (after.address + 1) % SIX_BITS;
     after.character = code;
     after

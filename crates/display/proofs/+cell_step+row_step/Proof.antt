@@ -1,7 +1,7 @@
 -- `display::row_step` and `display::cell_step`, by the number of words left, counted twice and once more for a row. A row above the line is passed
 -- over; in the row that the line cuts each cell is painted and then the rest; below the line nothing is left to paint.
 -- Assumes nothing.
-use mathlib.Core.Path.{_≡_, refl, ap, _∙_, sym, subst}
+use mathlib.Core.Path.{ap, _∙_, sym, subst}
 use mathlib.Core.Logic.{inl}
 use Prim.Native.Nat.{_+_, _-_}
 use native.Mathlib.Nat.{pos-of-ne-zero}
@@ -13,7 +13,7 @@ use Rattle.display.specs.declared.Lines.{Lines}
 use Rattle.display.specs.declared.Pen.{Pen}
 use Rattle.display.specs.declared.Placed.{Placed}
 use Rattle.display.specs.Cells.{rowPen, goesOn, cellsFrom}
-use Rattle.display.specs.Steps.{painted, Room}
+use Rattle.display.specs.Steps.{painted}
 use Rattle.display.proofs.Join.{quiet}
 use Rattle.display.proofs.Rows.{resumed, passed}
 use Rattle.display.proofs.Walk.{part-is, part-length, room-rest, stops, ends, steps, moved-return, moved-space, moved-character}

@@ -3,7 +3,7 @@
 use lib.Dec.{ltb}
 use native.Mathlib.Nat.{mul-le-mul}
 use native.Mathlib.Omega.{arith}
-use mathlib.Core.Path.{_≡_, ap}
+use mathlib.Core.Path.{ap}
 use Prim.Native.Nat.{ℕ, _-_, _*_, _/_, _%_, _≤_}
 use borrow.Author.Needs.{needs}
 use Rattle.display.proofs.blink_lit.Statement.{statement}

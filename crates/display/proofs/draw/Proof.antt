@@ -1,6 +1,6 @@
 -- `display::draw`: a character's bits and a space's blank bits, stretched over their dots, are what their cells show; the other kinds have no cell.
 -- Assumes nothing.
-use mathlib.Core.Path.{_≡_, refl, sym, ap, _∙_}
+use mathlib.Core.Path.{refl, sym, ap, _∙_}
 use native.Mathlib.Omega.{arith}
 use mathlib.Core.List.{[]}
 use Rattle.laws.specs.Lines.{overlay, lastShown}

@@ -5,8 +5,8 @@ use lib.ListN.{length, drop, set, replicate, length-append, length-replicate, le
 use lib.Seq.{drop-length}
 use native.Mathlib.Omega.{arith}
 use mathlib.Core.List.{List, _++_, append-nil}
-use mathlib.Core.Path.{_≡_, refl, sym, ap, _∙_}
-use Prim.Native.Nat.{ℕ, _+_, _-_, _≤_}
+use mathlib.Core.Path.{_≡_, refl, ap, _∙_}
+use Prim.Native.Nat.{ℕ, _-_, _≤_}
 use Rattle.display.proofs.fill.Statement.{statement}
 use Rattle.display.proofs.fill.Tie as tie
 

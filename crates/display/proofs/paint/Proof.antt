@@ -1,13 +1,13 @@
 -- `display::paint`: what `judged` answers decides; an accepted call's line stands in the part lent on.
 -- Assumes nothing.
-use mathlib.Core.Path.{_≡_, refl, sym, ap, _∙_}
+use mathlib.Core.Path.{sym, ap, _∙_}
 use native.Mathlib.Omega.{arith}
 use borrow.Author.Needs.{needs}
 use lib.ListN.{length}
 use lib.Seq.{length-take-le}
 use Rattle.laws.specs.Said.{Said}
 use Rattle.display.specs.Painting.{said}
-use Rattle.display.proofs.Judging.{Accepted, accepted-by}
+use Rattle.display.proofs.Judging.{accepted-by}
 use Rattle.display.proofs.Whole.{not-done, refused-leaves, shown, dark}
 use Rattle.display.proofs.paint.Statement.{statement}
 use Rattle.display.proofs.paint.Tie as tie

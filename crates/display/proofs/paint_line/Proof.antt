@@ -1,6 +1,6 @@
 -- `display::paint_line`: a line of outside bytes, painted over by the cells in turn, is by `joined` the line of the account.
 -- Assumes nothing.
-use mathlib.Core.Path.{_≡_, refl, sym, ap, _∙_}
+use mathlib.Core.Path.{ap, _∙_}
 use Prim.Native.Nat.{ℕ}
 use mathlib.Core.List.{List}
 use native.Mathlib.Omega.{arith}
@@ -10,7 +10,7 @@ use Rattle.laws.proofs.Overlay.{overlay-filled}
 use Rattle.laws.proofs.Tabulate.{tabulate-ext}
 use Rattle.display.specs.Cells.{rowPen, cells}
 use Rattle.display.specs.Picture.{outsideByte, dotAt}
-use Rattle.display.specs.Steps.{painted, Room}
+use Rattle.display.specs.Steps.{painted}
 use Rattle.display.proofs.Join.{joined}
 use borrow.Author.Needs.{needs}
 use Rattle.display.proofs.paint_line.Statement.{statement}

@@ -1,12 +1,10 @@
 -- `display::row_end`. The loop's invariant: the row ends where the words that are left end it, counted from the first.
 -- Assumes nothing.
-use Prim.Native.Nat.{ℕ, _+_, _-_, _≤_}
-use mathlib.Core.Path.{_≡_, refl, sym, ap, _∙_}
+use Prim.Native.Nat.{_-_, _≤_}
+use mathlib.Core.Path.{_≡_, refl, sym, _∙_}
 use native.Mathlib.Omega.{arith}
 use borrow.Author.Needs.{needs}
 use lib.ListN.{length, drop}
-use Rattle.display.specs.declared.RowEnd.{RowEnd}
-use Rattle.display.specs.declared.RowEnd.the-variants.{Over, Next}
 use Rattle.display.specs.Steps.{rowEnd}
 use Rattle.display.proofs.Rows.{laterBy, later-none, end-over, end-step, end-goes}
 use Rattle.display.proofs.row_end.Statement.{statement}

@@ -1,9 +1,10 @@
 -- `font::all_within`. The loop's invariant: the largest number so far and the numbers left are within the bound exactly where all are.
 -- Assumes nothing.
-use Prim.Native.Nat.{ℕ, _≤_, _-_}
-use mathlib.Core.Path.{_≡_, refl, sym, ap, _∙_}
+use Prim.Native.Nat.{_≤_, _-_}
+use mathlib.Core.Path.{_≡_, sym, _∙_}
 use mathlib.Core.Logic.{⊎-elim}
 use native.Mathlib.Omega.{arith}
+use borrow.Author.Needs.{needs}
 use borrow.Author.Tests.{le-leb}
 use lib.Dec.{leb}
 use lib.ListN.{length, drop}
@@ -19,8 +20,14 @@ Inv-loop numbers most top₀ i₀ top i = (i ≤ length numbers) × (both (leb t
 abbrev μ-loop : tie.MeasureT-loop
 μ-loop numbers most top₀ i₀ top i = length numbers - i
 
+all-bits-requires : tie.Need-all-bits-requires Inv-loop μ-loop
+all-bits-requires c κs = search needs
+
+returns : tie.Need-returns Inv-loop μ-loop
+returns c = sym (c .before .all-bits .ensures (c .before .before .before .args .most) (c .if1 .taken))
+
 loop-holds : tie.Need-loop-holds Inv-loop μ-loop
-loop-holds c = (omega arith, simp (le-leb 0 (c .args .most) (omega arith)))
+loop-holds c = (omega arith, simp (le-leb 0 (c .before .before .before .args .most) (omega arith)))
 
 mul-number : tie.Need-mul-number Inv-loop μ-loop
 mul-number c = omega arith
@@ -37,19 +44,19 @@ loop-less c = omega arith
 loop-again : tie.Need-loop-again Inv-loop μ-loop
 loop-again c =
     let l = c .before .before .before .loop in
-    let a = c .before .before .before .before .args in (
+    let a = c .before .before .before .before .before .before .before .args in (
       omega arith,
       ⊎-elim
           (λ w. rw (w .1) (within-larger (a .most) (a .numbers .now) (l .i) (l .top) (omega arith) (omega arith)))
           (λ w. rw (w .1) (within-kept (a .most) (a .numbers .now) (l .i) (l .top) (omega arith) (omega arith)))
-          (c .if1 .came)
+          (c .if2 .came)
           ∙ l .inv .1,
     )
 
-returns : tie.Need-returns Inv-loop μ-loop
-returns c =
+returns-2 : tie.Need-returns-2 Inv-loop μ-loop
+returns-2 c =
     let l = c .before .loop in
-    let a = c .before .before .args in
+    let a = c .before .before .before .before .before .args in
     let e : l .i ≡ length (a .numbers .now) = omega arith in
     sym (within-all (a .most) (a .numbers .now) (l .top)) ∙ (rw e at (l .inv .1))
 
@@ -59,10 +66,12 @@ all-within-spec =
     (tie.spec
     Inv-loop
     μ-loop
+    all-bits-requires
+    returns
     loop-holds
     mul-number
     shared-slice-read-number
     add-i
     loop-less
     loop-again
-    returns)
+    returns-2)

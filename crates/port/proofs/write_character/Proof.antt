@@ -2,10 +2,10 @@
 -- Assumes nothing.
 use Prim.Native.Nat.{_+_, _*_, _%_}
 use mathlib.Core.Path.{ap}
-use lib.ListN.{set}
 use native.Mathlib.Omega.{arith}
-use Rattle.port.specs.declared.Port.{Port}
 use borrow.Author.Needs.{needs}
+use lib.ListN.{set}
+use Rattle.port.specs.declared.Port.{Port}
 use Rattle.port.proofs.write_character.Statement.{statement}
 use Rattle.port.proofs.write_character.Tie as tie
 
@@ -15,29 +15,29 @@ kept-requires c κs = search needs
 cast-at : tie.Need-cast-at
 cast-at c = search needs
 
-cast-after : tie.Need-cast-after
-cast-after c = search needs
+cast-word : tie.Need-cast-word
+cast-word c = search needs
 
-cast-after-2 : tie.Need-cast-after-2
-cast-after-2 c = search needs
+cast-word-2 : tie.Need-cast-word-2
+cast-word-2 c = search needs
+
+mul-word : tie.Need-mul-word
+mul-word c = search needs
+
+cast-word-3 : tie.Need-cast-word-3
+cast-word-3 c = search needs
+
+add-word : tie.Need-add-word
+add-word c = search needs
 
 mul-after : tie.Need-mul-after
 mul-after c = search needs
 
-cast-after-3 : tie.Need-cast-after-3
-cast-after-3 c = search needs
-
-add-after : tie.Need-add-after
-add-after c = search needs
-
-mul-after-2 : tie.Need-mul-after-2
-mul-after-2 c = search needs
-
 element-write-after : tie.Need-element-write-after
 element-write-after c = omega (arith, ap (λ (q : Port). q .address) (c .kept .ensures))
 
-add-after-2 : tie.Need-add-after-2
-add-after-2 c = omega (arith, ap (λ (q : Port). q .address) (c .kept .ensures))
+add-after : tie.Need-add-after
+add-after c = omega (arith, ap (λ (q : Port). q .address) (c .kept .ensures))
 
 returns : tie.Need-returns
 returns c =
@@ -47,15 +47,4 @@ returns c =
 pub write-character-spec : {M : Type 1} → statement M
 write-character-spec =
     tie.close
-    (tie.spec
-    kept-requires
-    cast-at
-    cast-after
-    cast-after-2
-    mul-after
-    cast-after-3
-    add-after
-    mul-after-2
-    element-write-after
-    add-after-2
-    returns)
+    (tie.spec kept-requires cast-at cast-word cast-word-2 mul-word cast-word-3 add-word mul-after element-write-after add-after returns)

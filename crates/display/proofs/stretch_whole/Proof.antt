@@ -1,10 +1,10 @@
--- `display::stretch_by`. The loop's invariant: the first j columns are painted, each `size` dots wide.
+-- `display::stretch_whole`. The loop's invariant: the first j columns are painted, each `size` dots wide.
 -- Assumes nothing.
 use Prim.Native.Nat.{ℕ, _+_, _-_, _*_, _/_, _≤_}
 use mathlib.Core.List.{List}
 use mathlib.Core.Path.{_≡_, refl, sym, ap, _∙_}
 use native.Mathlib.Omega.{arith}
-use native.Mathlib.Nat.{mul-le-mul}
+use native.Mathlib.Nat.{mul-le-mul, le-refl}
 use lib.ListN.{length}
 use Rattle.laws.specs.Lines.{overlay}
 use Rattle.laws.specs.Placing.{patched}
@@ -12,8 +12,8 @@ use Rattle.laws.proofs.Overlay.{overlay-length, overlay-leaves, overlay-same, o
 use Rattle.laws.proofs.Patched.{patched-none, patched-more}
 use Rattle.laws.proofs.Placing.{part-at}
 use Rattle.display.specs.Steps.{bitByte, stretched}
-use Rattle.display.proofs.stretch_by.Statement.{statement}
-use Rattle.display.proofs.stretch_by.Tie as tie
+use Rattle.display.proofs.stretch_whole.Statement.{statement}
+use Rattle.display.proofs.stretch_whole.Tie as tie
 
 abbrev Inv-loop : tie.InvT-loop
 Inv-loop out₀ size bits on off from j₀ out j = (j ≤ 12) × ((out ≡ overlay (stretched from (j * size) size bits on off) out₀) × (length out ≡ length out₀))
@@ -33,14 +33,14 @@ loop-holds c =
       ),
     )
 
-mul-span : tie.Need-mul-span Inv-loop μ-loop
-mul-span c =
+mul-column : tie.Need-mul-column Inv-loop μ-loop
+mul-column c =
     let j : c .before .before .loop .j ≤ 12 = omega arith in
     let s : c .before .before .before .before .args .size ≤ 4 = omega arith in
     omega (arith, mul-le-mul j s)
 
-add-span : tie.Need-add-span Inv-loop μ-loop
-add-span c =
+add-column : tie.Need-add-column Inv-loop μ-loop
+add-column c =
     let j : c .before .before .loop .j ≤ 12 = omega arith in
     let s : c .before .before .before .before .args .size ≤ 4 = omega arith in
     omega (arith, mul-le-mul j s)
@@ -48,12 +48,12 @@ add-span c =
 bit-byte-requires : tie.Need-bit-byte-requires Inv-loop μ-loop
 bit-byte-requires c κs = omega arith
 
-span-requires : tie.Need-span-requires Inv-loop μ-loop
-span-requires c κs =
-    let j : c .before .before .before .loop .j ≤ 12 = omega arith in
-    let s : c .before .before .before .before .before .args .size ≤ 4 = omega arith in
-    let m = mul-le-mul j s in
-    (omega arith, s)
+column-requires : tie.Need-column-requires Inv-loop μ-loop
+column-requires c κs =
+    let j : c .before .before .before .loop .j + 1 ≤ 12 = omega arith in
+    let size = c .before .before .before .before .before .args .size in
+    let m : (c .before .before .before .loop .j + 1) * size ≤ 12 * size = mul-le-mul j (le-refl size) in
+    ((omega arith, omega arith), omega arith)
 
 add-j : tie.Need-add-j Inv-loop μ-loop
 add-j c = omega arith
@@ -69,12 +69,12 @@ loop-again c =
     let shows : ℕ → ℕ = λ d. bitByte (a .bits) (d / a .size) (a .on) (a .off) in
     let more : l .j * a .size + a .size ≡ (l .j + 1) * a .size = omega arith in
     let e =
-        c .before .before .span .ensures
-        ∙ ap (λ (t : List ℕ). overlay (patched (a .x .0 + l .j * a .size) (a .size) (λ d. byte)) t) (l .inv .1 .0)
-        ∙ overlay-twice (patched (a .x .0) (l .j * a .size) shows) (patched (a .x .0 + l .j * a .size) (a .size) (λ d. byte)) 0 (a .out .now)
-        ∙ overlay-same _ (patched (a .x .0) (l .j * a .size + a .size) shows) (a .out .now) (λ k old. patched-more (a .x .0) shows (l .j * a .size) (a .size) byte k old
-        (λ d le lt. c .before .before .before .bit-byte .ensures ∙ ap (λ (q : ℕ). bitByte (a .bits) q (a .on) (a .off)) (sym (part-at (l .j) (a .size) d le lt))))
-        ∙ ap (λ (m : ℕ). overlay (patched (a .x .0) m shows) (a .out .now)) more in
+    c .before .before .column .ensures
+    ∙ ap (λ (t : List ℕ). overlay (patched (a .x .0 + l .j * a .size) (a .size) (λ d. byte)) t) (l .inv .1 .0)
+    ∙ overlay-twice (patched (a .x .0) (l .j * a .size) shows) (patched (a .x .0 + l .j * a .size) (a .size) (λ d. byte)) 0 (a .out .now)
+    ∙ overlay-same _ (patched (a .x .0) (l .j * a .size + a .size) shows) (a .out .now) (λ k old. patched-more (a .x .0) shows (l .j * a .size) (a .size) byte k old
+    (λ d le lt. c .before .before .before .bit-byte .ensures ∙ ap (λ (q : ℕ). bitByte (a .bits) q (a .on) (a .off)) (sym (part-at (l .j) (a .size) d le lt))))
+    ∙ ap (λ (m : ℕ). overlay (patched (a .x .0) m shows) (a .out .now)) more in
     (omega arith, (e, ap length e ∙ overlay-length (patched (a .x .0) ((l .j + 1) * a .size) shows) 0 (a .out .now)))
 
 same-length : tie.Need-same-length Inv-loop μ-loop
@@ -87,17 +87,17 @@ returns c =
     let e : l .j ≡ 12 = omega arith in
     l .inv .1 .0 ∙ ap (λ (j : ℕ). overlay (stretched (a .x .0) (j * a .size) (a .size) (a .bits) (a .on) (a .off)) (a .out .now)) e
 
-pub stretch-by-spec : {M : Type 1} → statement M
-stretch-by-spec =
+pub stretch-whole-spec : {M : Type 1} → statement M
+stretch-whole-spec =
     tie.close
     (tie.spec
     Inv-loop
     μ-loop
     loop-holds
-    mul-span
-    add-span
+    mul-column
+    add-column
     bit-byte-requires
-    span-requires
+    column-requires
     add-j
     loop-less
     loop-again
