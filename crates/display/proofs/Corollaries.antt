@@ -8,9 +8,10 @@ use mathlib.Core.List.{List, [], _∷_, _++_}
 use Prim.Native.Nat.{ℕ, _-_, _*_, _/_, _<_, _≤_}
 use native.Mathlib.Omega.{arith}
 use Rattle.laws.specs.Pick.{pick}
-use Rattle.laws.specs.Lines.{tabulate, firstShown, holders}
+use Rattle.laws.specs.Lines.{firstShown, holders}
+use Rattle.laws.specs.Lists.{tabulate}
 use lib.ListN.{take, getD}
-use Rattle.laws.proofs.Tabulate.{tabulate-ext, tabulate-at, tabulate-cut}
+use Rattle.laws.proofs.Lists.{tabulate-same, getD-tabulate, tabulate-cut}
 use Rattle.laws.proofs.Holders.{first-none}
 use Rattle.laws.proofs.Placing.{cell-has, cell-below, cell-beside, share-below}
 use Rattle.font.specs.Font.{rowOf}
@@ -55,12 +56,12 @@ same-words words words′ font s frame line width e =
 -- the line is its dots, one by one
 pub line-dot : (words font : List ℕ) (s : Settings) (frame : ℕ) (line : Lines) (width : Dots) (k d : ℕ) → k < width .0
     → getD (lineOf words font s frame line width) k d ≡ dotOf words font s frame line k
-line-dot words font s frame line width k d lt = tabulate-at (dotOf words font s frame line) (width .0) k d lt
+line-dot words font s frame line width k d lt = getD-tabulate (width .0) (dotOf words font s frame line) k d lt
 
 -- a smaller width cuts the line and changes no dot of it
 pub line-cut : (words font : List ℕ) (s : Settings) (frame : ℕ) (line : Lines) (less width : Dots) → less .0 ≤ width .0
     → take (less .0) (lineOf words font s frame line width) ≡ lineOf words font s frame line less
-line-cut words font s frame line less width le = tabulate-cut (dotOf words font s frame line) (less .0) (width .0) le
+line-cut words font s frame line less width le = tabulate-cut (less .0) (width .0) (dotOf words font s frame line) le
 
 -- two fonts have the same rows of each character shown
 abbrev pub SameGlyph : List ℕ → List ℕ → Shown → Type 0
@@ -94,7 +95,7 @@ pub same-fonts : (words f g : List ℕ) (s : Settings) (frame : ℕ) (line : Lin
     → lineOf words f s frame line width ≡ lineOf words g s frame line width
 unfolding dotOf dotAt
 same-fonts words f g s frame line width agree =
-    tabulate-ext _ _ (width .0) (λ k lt. ap (λ (n : ℕ). pick (s .on) n 0) (same-dot f g (viewOf s frame line) k (screenOf words s) (outsideByte (s .mode) (s .colour)) agree))
+    tabulate-same (width .0) _ _ (λ k lt. ap (λ (n : ℕ). pick (s .on) n 0) (same-dot f g (viewOf s frame line) k (screenOf words s) (outsideByte (s .mode) (s .colour)) agree))
 
 -- no cell stands left of where rows start, and none above the pen
 module _ (v : View) (left : Dots) (k : ℕ) where

@@ -5,7 +5,8 @@ use mathlib.Core.Bool.{true}
 use mathlib.Core.List.{List, [], _∷_}
 use Prim.Native.Nat.{ℕ}
 use lib.ListN.{replicate}
-use Rattle.laws.specs.Lines.{tabulateFrom, firstShown}
+use Rattle.laws.specs.Lines.{firstShown}
+use Rattle.laws.specs.Lists.{tabulate}
 use Rattle.laws.specs.Placing.{cellHas}
 use Rattle.laws.specs.Within.{within}
 use Rattle.font.specs.Font.{isFont}
@@ -33,5 +34,5 @@ pub example :
     × ((left 2 18 ≡ 0 ∷ 0 ∷ 0 ∷ 0 ∷ 0 ∷ 0 ∷ 0 ∷ 0 ∷ 0 ∷ 0 ∷ 0 ∷ 0 ∷ 0 ∷ 0 ∷ 7 ∷ 7 ∷ [])
     × ((left 3 0 ≡ 15 ∷ 9 ∷ 9 ∷ 9 ∷ 9 ∷ 9 ∷ 9 ∷ 9 ∷ 9 ∷ 9 ∷ 9 ∷ 15 ∷ 9 ∷ 9 ∷ 7 ∷ 7 ∷ [])
     × (left 3 18 ≡ 9 ∷ 9 ∷ 9 ∷ 9 ∷ 9 ∷ 9 ∷ 9 ∷ 9 ∷ 9 ∷ 9 ∷ 9 ∷ 9 ∷ 9 ∷ 9 ∷ 7 ∷ 7 ∷ [])))
-unfolding kindOf leftBy dotOf dotAt firstShown cellHas cellsFrom kindCell afterWord shownDot tabulateFrom answerOf within isFont
+unfolding kindOf leftBy dotOf dotAt firstShown cellHas cellsFrom kindCell afterWord shownDot tabulate answerOf within isFont
 example = (refl, (refl, (refl, refl)))

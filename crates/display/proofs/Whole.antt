@@ -12,8 +12,8 @@ use denote.Enum.Declared.{tagOf}
 use lib.ListN.{length, take, drop, replicate}
 use lib.Seq.{length-take-le}
 use Rattle.laws.specs.Said.{Said, accepted}
-use Rattle.laws.specs.Lines.{tabulate}
-use Rattle.laws.proofs.Tabulate.{tabulate-ext, tabulate-constant}
+use Rattle.laws.specs.Lists.{tabulate}
+use Rattle.laws.proofs.Lists.{tabulate-same, tabulate-constant}
 use Rattle.display.specs.declared.Dots.{Dots}
 use Rattle.display.specs.declared.Lines.{Lines}
 use Rattle.display.specs.declared.Settings.{Settings}
@@ -54,7 +54,7 @@ module _ (words font : List ℕ) (s : Settings) (frame : ℕ) (line : Lines) (wi
         (e
         ∙ ap (λ (n : ℕ). tabulate n (dotAt font (record { left = leftOf s; line = line; mode = s .mode; lit = lit }) (s .colour) (screenOf words s))) (length-take-le (width .0) out fits)
         ∙ ap (λ (b : Bool). tabulate (width .0) (dotAt font (record { left = leftOf s; line = line; mode = s .mode; lit = b }) (s .colour) (screenOf words s))) blink
-        ∙ tabulate-ext (dotAt font (viewOf s frame line) (s .colour) (screenOf words s)) (dotOf words font s frame line) (width .0) (λ k lt. simp on))
+        ∙ tabulate-same (width .0) (dotAt font (viewOf s frame line) (s .colour) (screenOf words s)) (dotOf words font s frame line) (λ k lt. simp on))
 
     pub dark : s .on ≡ false → last ≡ replicate (length (take (width .0) out)) 0 → last ++ drop (width .0) out ≡ leftBy words font s frame line width out
     unfolding dotOf
@@ -63,4 +63,4 @@ module _ (words font : List ℕ) (s : Settings) (frame : ℕ) (line : Lines) (wi
         (e
         ∙ ap (λ (n : ℕ). replicate n 0) (length-take-le (width .0) out fits)
         ∙ tabulate-constant 0 (width .0)
-        ∙ tabulate-ext (λ k. 0) (dotOf words font s frame line) (width .0) (λ k lt. simp off))
+        ∙ tabulate-same (width .0) (λ k. 0) (dotOf words font s frame line) (λ k lt. simp off))

@@ -8,7 +8,7 @@ use lib.ListN.{length, drop}
 use Rattle.laws.specs.Pick.{pick, both}
 use Rattle.laws.specs.Said.{Said, accepted, refused}
 use Rattle.laws.specs.Within.{within}
-use Rattle.laws.specs.Lines.{tabulate}
+use Rattle.laws.specs.Lists.{tabulate}
 use Rattle.font.specs.Font.{isFont}
 use Rattle.display.specs.declared.Dots.{Dots}
 use Rattle.display.specs.declared.Lines.{Lines}

@@ -2,7 +2,8 @@
 ghost use mathlib.Core.Path.{_≡_};
 ghost use Prim.Native.Nat.{ℕ, _+_, _*_, _≤_, _<_};
 ghost use lib.ListN.{length, replicate};
-ghost use Rattle.laws.specs.Lines.{overlay, tabulate};
+ghost use Rattle.laws.specs.Lines.{overlay};
+ghost use Rattle.laws.specs.Lists.{tabulate};
 ghost use Rattle.laws.specs.Placing.{patched};
 ghost use Rattle.font.specs.Font.{fontRows, cellRows, cellColumns};
 ghost use Rattle.display.specs.Words.{kindOf};

@@ -13,8 +13,8 @@ use lib.Seq.{take-all, take-suc}
 use borrow.Author.Tests.{eqb-true, eqb-false, le-leb, le-ltb}
 use Rattle.laws.specs.Pick.{pick}
 use Rattle.laws.specs.Said.{Said, accepted, refused}
-use Rattle.image.specs.Lists.{tabulate, firstOf}
-use Rattle.image.proofs.Lists.{first-most, tabulate-same}
+use Rattle.laws.specs.Lists.{tabulate, firstOf}
+use Rattle.laws.proofs.Lists.{first-most, tabulate-same}
 use Rattle.hex.specs.Lines.{bodyOf}
 use Rattle.hex.specs.Records.{records, isShaped, lengthOf, addressOf, typeOf, sumOf, isEnd, freshIn, faultOf, byteIn, gives, dataAt}
 use Rattle.hex.specs.Reading.{verdict, nth}

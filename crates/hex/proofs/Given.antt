@@ -12,8 +12,8 @@ use lib.ListN.{length, getD, take, drop, length-drop, List·getD-eq-default}
 use lib.Seq.{getD-drop, getD-take}
 use borrow.Author.Tests.{lt-ltb, le-ltb, le-leb, lt-leb, eqb-true}
 use Rattle.laws.specs.Pick.{pick, both}
-use Rattle.image.specs.Lists.{tabulate}
-use Rattle.image.proofs.Lists.{both-parts, getD-tabulate, length-tabulate, tabulate-same}
+use Rattle.laws.specs.Lists.{tabulate}
+use Rattle.laws.proofs.Lists.{both-parts, getD-tabulate, length-tabulate, tabulate-same}
 use Rattle.hex.specs.Digits.{digit, byteAt}
 use Rattle.hex.specs.Records.{allDigits, isShaped, spelledBy, recordOf, lengthOf, addressOf, gives, dataAt, byteIn, isGiven}
 use Rattle.hex.specs.Steps.{storedAt}

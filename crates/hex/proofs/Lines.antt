@@ -11,7 +11,7 @@ use lib.ListN.{length, getD, take, drop}
 use lib.Seq.{drop-nil, take-nil}
 use borrow.Author.Tests.{ne-eqb, eqb-true}
 use Rattle.laws.specs.Pick.{pick, both}
-use Rattle.image.proofs.Lists.{both-parts}
+use Rattle.laws.proofs.Lists.{both-parts}
 use Rattle.hex.specs.Lines.{lines, onto, atEnd, bodyOf}
 use Rattle.hex.specs.Steps.{endLength}
 

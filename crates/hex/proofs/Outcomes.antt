@@ -12,8 +12,8 @@ use lib.ListN.{length, getD, drop}
 use borrow.Author.Tests.{le-ltb, lt-ltb, eq-eqb, ne-eqb}
 use Rattle.laws.specs.Pick.{pick}
 use Rattle.laws.specs.Said.{Said}
-use Rattle.image.specs.Lists.{tabulate}
-use Rattle.image.proofs.Lists.{tabulate-same, getD-tabulate}
+use Rattle.laws.specs.Lists.{tabulate}
+use Rattle.laws.proofs.Lists.{tabulate-same, getD-tabulate}
 use Rattle.hex.specs.Lines.{lines}
 use Rattle.hex.specs.Records.{records, recordOf, byteIn, gives, dataAt}
 use Rattle.hex.specs.Reading.{answerOf, leftOf, said, verdict}

@@ -16,8 +16,8 @@ use borrow.Author.Tests.{lt-ltb, le-ltb}
 use borrow.Author.Count.{below-more}
 use Rattle.laws.specs.Pick.{pick}
 use Rattle.laws.specs.Said.{Said, accepted, refused}
-use Rattle.image.specs.Lists.{tabulate, firstOf}
-use Rattle.image.proofs.Lists.{is-tabulate, first-is, first-none, first-same, first-before, getD-tabulate, length-tabulate}
+use Rattle.laws.specs.Lists.{tabulate, firstOf}
+use Rattle.laws.proofs.Lists.{is-tabulate, first-is, first-none, first-same, first-before, getD-tabulate, length-tabulate}
 use Rattle.hex.specs.Digits.{byteAt}
 use Rattle.hex.specs.Lines.{bodyOf, lines, onto, placeOf, total}
 use Rattle.hex.specs.Records.{frame, sumOf, addressOf, isGiven, freshIn, records, recordOf, spelledBy, isShaped, lengthOf, byteIn, countOf, faultOf, isEnd}

@@ -9,8 +9,8 @@ use native.Mathlib.Omega.{arith}
 use lib.ListN.{length, getD, take, drop, length-drop}
 use lib.Seq.{getD-drop, drop-drop, length-take-le}
 use Rattle.laws.specs.Pick.{pick}
-use Rattle.image.specs.Lists.{tabulate}
-use Rattle.image.proofs.Lists.{tabulate-same, length-tabulate}
+use Rattle.laws.specs.Lists.{tabulate}
+use Rattle.laws.proofs.Lists.{tabulate-same, length-tabulate}
 use Rattle.hex.specs.Digits.{digit, byteAt}
 use Rattle.hex.specs.Lines.{atEnd, bodyOf, lines, total}
 use Rattle.hex.specs.Records.{isShaped, spelledBy, sumOf}

@@ -12,8 +12,8 @@ use lib.ListN.{length, getD, take, drop, length-drop}
 use lib.Seq.{getD-take, getD-drop, length-take-le}
 use borrow.Author.Tests.{lt-ltb, ltb-true, eq-eqb, eqb-true}
 use Rattle.laws.specs.Pick.{pick, both}
-use Rattle.image.specs.Lists.{tabulate}
-use Rattle.image.proofs.Lists.{both-parts, tabulate-same}
+use Rattle.laws.specs.Lists.{tabulate}
+use Rattle.laws.proofs.Lists.{both-parts, tabulate-same}
 use Rattle.hex.specs.Digits.{digit, byteAt}
 use Rattle.hex.specs.Lines.{atEnd, bodyOf}
 use Rattle.hex.specs.Records.{allDigits, isShaped, spelledBy}

@@ -13,8 +13,8 @@ use lib.ListN.{length, getD, set, take, drop, length-drop, drop-of-length-le, Li
 use lib.Seq.{drop-cons, getD-drop, getD-take, length-take-le, getD-set-same, getD-set-other}
 use borrow.Author.Tests.{lt-ltb, le-ltb, le-leb, lt-leb}
 use Rattle.laws.specs.Pick.{pick, both}
-use Rattle.image.specs.Lists.{tabulate}
-use Rattle.image.proofs.Lists.{getD-tabulate}
+use Rattle.laws.specs.Lists.{tabulate}
+use Rattle.laws.proofs.Lists.{getD-tabulate}
 use Rattle.hex.specs.Digits.{digit, byteAt}
 use Rattle.hex.specs.Lines.{atEnd, total}
 use Rattle.hex.specs.Records.{allDigits}

@@ -9,7 +9,7 @@ use lib.Dec.{eqb, ltb}
 use lib.ListN.{length, getD, take, drop}
 use Rattle.laws.specs.Pick.{pick}
 use Rattle.laws.specs.Said.{Said, accepted, refused}
-use Rattle.image.specs.Lists.{tabulate, firstOf}
+use Rattle.laws.specs.Lists.{tabulate, firstOf}
 use Rattle.image.specs.Image.{imageBytes}
 use Rattle.hex.specs.Lines.{lines, placeOf}
 use Rattle.hex.specs.Records.{records, isEnd, byteIn, countOf, faultOf}

@@ -8,7 +8,7 @@ use mathlib.Core.List.{List, [], _∷_, map}
 use lib.Dec.{eqb, leb, ltb}
 use lib.ListN.{length, getD, drop}
 use Rattle.laws.specs.Pick.{pick, both}
-use Rattle.image.specs.Lists.{tabulate, firstOf}
+use Rattle.laws.specs.Lists.{tabulate, firstOf}
 use Rattle.image.specs.Image.{imageBytes}
 use Rattle.hex.specs.Digits.{digit, byteAt}
 use Rattle.hex.specs.Lines.{lines, bodyOf, total}

@@ -7,7 +7,7 @@ use mathlib.Core.List.{List, [], _∷_}
 use lib.Dec.{eqb, leb, ltb}
 use lib.ListN.{length, getD, take, drop, replicate}
 use Rattle.laws.specs.Pick.{pick, both}
-use Rattle.image.specs.Lists.{tabulate}
+use Rattle.laws.specs.Lists.{tabulate}
 use Rattle.hex.specs.Digits.{digit, byteAt}
 use Rattle.hex.specs.Lines.{lines, bodyOf, atEnd, LF, total}
 use Rattle.hex.specs.Records.{isShaped, spelledBy, allDigits, sumOf}

@@ -5,7 +5,7 @@ ghost use mathlib.Core.Bool.{Bool, true, false};
 ghost use mathlib.Core.List.{_++_};
 ghost use lib.Dec.{eqb, ltb};
 ghost use lib.ListN.{length, getD, take, drop};
-ghost use Rattle.image.specs.Lists.{tabulate, firstOf};
+ghost use Rattle.laws.specs.Lists.{tabulate, firstOf};
 ghost use Rattle.hex.specs.Records.{records, byteIn};
 ghost use Rattle.hex.specs.Steps.{blank, digitTable, bytesFrom, sumFrom, pastEnd, recordAt, lineAt, storedAt, byteOf};
 ghost use Rattle.hex.specs.Reading.{answerOf, leftOf, said, verdict};

@@ -15,9 +15,9 @@ use Rattle.laws.specs.Pick.{both, pick}
 use Rattle.laws.specs.Said.{Said, accepted, refused}
 use Rattle.laws.specs.Within.{within}
 use Rattle.font.specs.Font.{isFont, rowOf}
-use Rattle.image.specs.Lists.{tabulate}
+use Rattle.laws.specs.Lists.{tabulate}
 use Rattle.image.specs.Image.{imageOf, fontOf, dueAt, rowIn, lowAt, cellAt, lineAt, hasRow, leastAt, lacksAt, firstLack, answerOf}
-use Rattle.image.proofs.Lists.{length-tabulate, getD-tabulate, is-tabulate, first-none, first-before, both-parts}
+use Rattle.laws.proofs.Lists.{length-tabulate, getD-tabulate, is-tabulate, first-none, first-before, both-parts}
 
 within-at : (most : ℕ) (l : List ℕ) → within most l ≡ true → (k : ℕ) → getD l k 0 ≤ most
 unfolding within

@@ -10,7 +10,7 @@ use lib.ListN.{length, getD}
 use Rattle.laws.specs.Pick.{pick, both}
 use Rattle.laws.specs.Said.{Said, accepted, refused}
 use Rattle.font.specs.Font.{fontCells, cellRows, fontRows, rowOf}
-use Rattle.image.specs.Lists.{tabulate, firstOf}
+use Rattle.laws.specs.Lists.{tabulate, firstOf}
 use Rattle.image.specs.declared.Turned.{Turned}
 use Rattle.image.specs.declared.Turned.the-variants.{Done, NotAFont}
 

@@ -1,9 +1,9 @@
 pub mod Determined
 pub mod Holders
+pub mod Lists
 pub mod Mapped
 pub mod Overlay
 pub mod Patched
 pub mod Placing
 pub mod Scan
-pub mod Tabulate
 pub mod Tests

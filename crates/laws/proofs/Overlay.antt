@@ -5,7 +5,9 @@ use mathlib.Core.List.{List, [], _∷_}
 use Prim.Native.Nat.{ℕ, zero, suc, _+_, _<_, _≤_}
 use native.Mathlib.Omega.{arith}
 use lib.ListN.{length, set, replicate}
-use Rattle.laws.specs.Lines.{overlayFrom, overlay, tabulateFrom}
+use Rattle.laws.specs.Lines.{overlayFrom, overlay}
+use Rattle.laws.specs.Lists.{tabulate}
+use Rattle.laws.proofs.Lists.{tabulate-same}
 
 pub overlay-length : (f : ℕ → ℕ → ℕ) (b : ℕ) (l : List ℕ) → length (overlayFrom f b l) ≡ length l
 unfolding overlayFrom
@@ -59,8 +61,13 @@ pub overlay-store : (f g : ℕ → ℕ → ℕ) (i v : ℕ) (l : List ℕ) → i
 overlay-store f g i v l lt here there =
     set-from f g 0 i v l lt (λ a. here a ∙ ap (λ (k : ℕ). g k a) (omega arith)) (λ k a ne. there k a (λ e. ne (omega arith)))
 
+filled-from : (f : ℕ → ℕ → ℕ) (a b n : ℕ) → overlayFrom f b (replicate n a) ≡ tabulate n (λ k. f (b + k) a)
+unfolding overlayFrom tabulate
+filled-from f a b zero = refl
+filled-from f a b (suc n) =
+    ap (λ (k : ℕ). f k a ∷ overlayFrom f (suc b) (replicate n a)) (omega arith)
+    ∙ ap (λ (t : List ℕ). f (b + 0) a ∷ t) (filled-from f a (suc b) n ∙ tabulate-same n _ _ (λ k lt. ap (λ (j : ℕ). f j a) (omega arith)))
+
 -- painting over a line of one byte
-pub overlay-filled : (f : ℕ → ℕ → ℕ) (a b n : ℕ) → overlayFrom f b (replicate n a) ≡ tabulateFrom (λ k. f k a) b n
-unfolding overlayFrom tabulateFrom
-overlay-filled f a b zero = refl
-overlay-filled f a b (suc n) = ap (λ (t : List ℕ). f b a ∷ t) (overlay-filled f a (suc b) n)
+pub overlay-filled : (f : ℕ → ℕ → ℕ) (a n : ℕ) → overlay f (replicate n a) ≡ tabulate n (λ k. f k a)
+overlay-filled f a n = filled-from f a 0 n ∙ tabulate-same n _ _ (λ k lt. ap (λ (j : ℕ). f j a) (omega arith))

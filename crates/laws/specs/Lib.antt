@@ -1,4 +1,5 @@
 pub mod Lines
+pub mod Lists
 pub mod Pick
 pub mod Placing
 pub mod Said

@@ -1,18 +1,9 @@
--- Lines of dots: a line from what each place shows, a line painted over, and who of several has a place.
+-- Lines of dots: a line painted over, and who of several has a place.
 -- Assumes nothing.
-use Prim.Native.Nat.{ℕ, zero, suc, _+_}
+use Prim.Native.Nat.{ℕ, suc, _+_}
 use mathlib.Core.List.{List, [], _∷_}
 use mathlib.Core.Bool.{Bool}
 use Rattle.laws.specs.Pick.{pick}
-
--- f at b, b + 1, .., so many of them
-unfoldable pub tabulateFrom : (ℕ → ℕ) → ℕ → ℕ → List ℕ
-tabulateFrom f b zero = []
-tabulateFrom f b (suc n) = f b ∷ tabulateFrom f (suc b) n
-
--- f at 0, 1, .., n - 1
-abbrev pub tabulate : ℕ → (ℕ → ℕ) → List ℕ
-tabulate n f = tabulateFrom f 0 n
 
 -- each dot of a line by its place, counted from b, and by what it was
 unfoldable pub overlayFrom : (ℕ → ℕ → ℕ) → ℕ → List ℕ → List ℕ

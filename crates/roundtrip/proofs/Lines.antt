@@ -12,8 +12,8 @@ use lib.ListN.{length, getD}
 use borrow.Author.Tests.{lt-ltb, ne-eqb, eq-eqb}
 use Rattle.laws.specs.Pick.{pick}
 use Rattle.laws.proofs.Tests.{upto-at}
-use Rattle.image.specs.Lists.{tabulate}
-use Rattle.image.proofs.Lists.{is-tabulate}
+use Rattle.laws.specs.Lists.{tabulate}
+use Rattle.laws.proofs.Lists.{is-tabulate}
 use Rattle.hex.specs.Digits.{digit, byteAt}
 use Rattle.hex.specs.Lines.{lines, atEnd, bodyOf, LF}
 use Rattle.hex.specs.Records.{colon, allDigits, isShaped, spelledBy, recordOf, records, lengthOf}

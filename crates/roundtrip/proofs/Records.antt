@@ -11,8 +11,8 @@ use lib.ListN.{length, getD, take, length-append, List·getD-append}
 use lib.Seq.{take-append-le, getD-at}
 use borrow.Author.Tests.{lt-ltb, le-ltb, le-leb}
 use Rattle.laws.specs.Said.{accepted}
-use Rattle.image.specs.Lists.{tabulate, firstOf}
-use Rattle.image.proofs.Lists.{length-tabulate, getD-tabulate, is-tabulate, first-is, first-none}
+use Rattle.laws.specs.Lists.{tabulate, firstOf}
+use Rattle.laws.proofs.Lists.{length-tabulate, getD-tabulate, is-tabulate, first-is, first-none}
 use Rattle.hex.specs.Lines.{total}
 use Rattle.hex.specs.Records.{lengthOf, addressOf, typeOf, sumOf, isEnd, gives, dataAt, byteIn, isGiven, countOf, faultOf}
 use Rattle.hex.specs.Reading.{nth, faultAt, stopsAt, stopOf, judged}

@@ -13,10 +13,10 @@ use borrow.Author.Tests.{le-ltb}
 use Rattle.laws.specs.Pick.{pick}
 use Rattle.laws.specs.Said.{accepted}
 use Rattle.font.specs.Font.{isFont, rowOf}
-use Rattle.image.specs.Lists.{tabulate}
+use Rattle.laws.specs.Lists.{tabulate}
 use Rattle.image.specs.Image.{imageOf, fontOf, dueAt, hasRow, cellAt, lineAt}
 use Rattle.image.specs.Image as turning
-use Rattle.image.proofs.Lists.{length-tabulate}
+use Rattle.laws.proofs.Lists.{length-tabulate}
 use Rattle.image.proofs.Turning.{font-row, font-again, image-accepted, image-again, gives-font}
 use Rattle.hex.specs.Lines.{lines}
 use Rattle.hex.specs.Records.{recordOf, records, gives, dataAt, byteIn}

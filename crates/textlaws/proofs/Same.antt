@@ -13,8 +13,8 @@ use lib.Seq.{getD-drop, take-at, drop-at, ext-getD}
 use borrow.Author.Tests.{ltb-true, lt-ltb, eq-eqb}
 use Rattle.laws.specs.Pick.{pick, both}
 use Rattle.laws.specs.Said.{Said, accepted, refused}
-use Rattle.image.specs.Lists.{tabulate}
-use Rattle.image.proofs.Lists.{tabulate-same}
+use Rattle.laws.specs.Lists.{tabulate}
+use Rattle.laws.proofs.Lists.{tabulate-same}
 use Rattle.hex.specs.Digits.{digit, byteAt}
 use Rattle.hex.specs.Lines.{lines, atEnd, bodyOf, placeOf}
 use Rattle.hex.specs.Records.{records, recordOf, spelledBy, isShaped, allDigits, byteIn, countOf, gives, dataAt}

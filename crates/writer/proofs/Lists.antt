@@ -9,7 +9,7 @@ use native.Mathlib.Numerals.{add-one}
 use native.Mathlib.Omega.{arith}
 use lib.ListN.{length, set, length-append}
 use lib.Seq.{sets}
-use Rattle.image.specs.Lists.{tabulate}
+use Rattle.laws.specs.Lists.{tabulate}
 
 pub sets-append : (t : List ℕ) (at : ℕ) (a b : List ℕ) → sets t at (a ++ b) ≡ sets (sets t at a) (at + length a) b
 sets-append t at [] b = rw (add-zero at)

@@ -11,9 +11,9 @@ use lib.Dec.{ltb, eqb}
 use lib.ListN.{getD}
 use borrow.Author.Tests.{lt-ltb, le-ltb, eq-eqb, ne-eqb}
 use Rattle.laws.specs.Pick.{pick}
-use Rattle.image.specs.Lists.{tabulate}
+use Rattle.laws.specs.Lists.{tabulate}
 use Rattle.image.specs.Image.{imageOf, dueAt}
-use Rattle.image.proofs.Lists.{getD-tabulate, tabulate-same}
+use Rattle.laws.proofs.Lists.{getD-tabulate, tabulate-same}
 use Rattle.writer.specs.Text.{bytesIn}
 use Rattle.writer.specs.Steps.{rowsIn, halfOf}
 

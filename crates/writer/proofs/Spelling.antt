@@ -7,8 +7,8 @@ use native.Mathlib.Nat.{mul-suc}
 use native.Mathlib.Omega.{arith}
 use lib.ListN.{length, getD, drop, set, length-append}
 use lib.Seq.{sets, length-sets, sets-eq}
-use Rattle.image.specs.Lists.{tabulate}
-use Rattle.image.proofs.Lists.{length-tabulate}
+use Rattle.laws.specs.Lists.{tabulate}
+use Rattle.laws.proofs.Lists.{length-tabulate}
 use Rattle.hex.specs.Lines.{LF, total}
 use Rattle.hex.specs.Records.{colon}
 use Rattle.hex.proofs.Steps.{sum-more}

@@ -6,7 +6,7 @@ use mathlib.Core.List.{List, [], _∷_, _++_, flatMap}
 use lib.Dec.{ltb}
 use lib.ListN.{length, getD}
 use Rattle.laws.specs.Pick.{pick}
-use Rattle.image.specs.Lists.{tabulate}
+use Rattle.laws.specs.Lists.{tabulate}
 use Rattle.hex.specs.Lines.{LF, total}
 use Rattle.hex.specs.Records.{colon}
 

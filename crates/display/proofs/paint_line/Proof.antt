@@ -7,7 +7,7 @@ use native.Mathlib.Omega.{arith}
 use lib.ListN.{length, replicate}
 use Rattle.laws.specs.Lines.{overlay}
 use Rattle.laws.proofs.Overlay.{overlay-filled}
-use Rattle.laws.proofs.Tabulate.{tabulate-ext}
+use Rattle.laws.proofs.Lists.{tabulate-same}
 use Rattle.display.specs.Cells.{rowPen, cells}
 use Rattle.display.specs.Picture.{outsideByte, dotAt}
 use Rattle.display.specs.Steps.{painted}
@@ -38,8 +38,8 @@ returns c =
     let n = length (a .out .now) in
     c .before .before .row-step .ensures
     ∙ ap (λ (t : List ℕ). overlay f t) (c .before .before .before .before .before .before .fill .ensures ∙ ap (λ (b : ℕ). replicate n b) (c .before .before .before .before .before .before .before .outside .ensures))
-    ∙ overlay-filled f (outsideByte (a .view .mode) (a .start)) 0 n
-    ∙ tabulate-ext _ _ n (λ k lt. joined (a .view) (a .view .left) k (a .font .now) (a .words .now) (rowPen (a .view .left) (a .top) 1 (a .start)) (outsideByte (a .view .mode) (a .start)))
+    ∙ overlay-filled f (outsideByte (a .view .mode) (a .start)) n
+    ∙ tabulate-same n _ _ (λ k lt. joined (a .view) (a .view .left) k (a .font .now) (a .words .now) (rowPen (a .view .left) (a .top) 1 (a .start)) (outsideByte (a .view .mode) (a .start)))
 
 pub paint-line-spec : {M : Type 1} → statement M
 paint-line-spec =

@@ -7,7 +7,7 @@ use Rattle.hex.specs.Steps.{recordAt, nextAt}
 use Rattle.hex.specs.Reading.{verdict}
 use Rattle.hex.specs.Lines.{bodyOf}
 use Rattle.hex.specs.Records.{isShaped, recordOf, lengthOf, addressOf, typeOf, sumOf, isEnd, isGiven, freshIn, faultOf, records, byteIn}
-use Rattle.image.proofs.Lists.{first-most}
+use Rattle.laws.proofs.Lists.{first-most}
 use borrow.Author.Tests.{eq-eqb, eqb-true, eqb-false}
 use mathlib.Core.Bool.{Bool, true, false}
 use borrow.Author.Needs.{needs}

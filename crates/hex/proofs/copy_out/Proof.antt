@@ -2,7 +2,7 @@
 -- Assumes nothing.
 use borrow.Author.Needs.{needs}
 use Rattle.hex.specs.Steps.{byteOf}
-use Rattle.image.proofs.Lists.{Filled, filled-none, filled-more, filled-all}
+use Rattle.laws.proofs.Lists.{Filled, filled-none, filled-more, filled-all}
 use native.Mathlib.Omega.{arith}
 use lib.ListN.{getD}
 use mathlib.Core.Path.{_∙_}

@@ -5,7 +5,7 @@ use Rattle.hex.proofs.Steps.{table-digit, sum-bad, sum-good, sum-more, 
 use Rattle.hex.specs.Steps.{bytesFrom}
 use Rattle.hex.specs.Lines.{total}
 use Rattle.hex.specs.Digits.{digit, byteAt}
-use Rattle.image.proofs.Lists.{Filled, filled-none, filled-more, filled-all, length-tabulate}
+use Rattle.laws.proofs.Lists.{Filled, filled-none, filled-more, filled-all, length-tabulate}
 use native.Mathlib.Omega.{arith}
 use lib.Seq.{take-at}
 use lib.ListN.{length, getD, take}
@@ -23,7 +23,7 @@ abbrev μ-loop : tie.MeasureT-loop
 μ-loop digits text from n bytes₀ sum₀ i₀ bytes sum i = n - i
 
 loop-holds : tie.Need-loop-holds Inv-loop μ-loop
-unfolding total Rattle.image.specs.Lists.tabulate
+unfolding total Rattle.laws.specs.Lists.tabulate
 loop-holds c = (omega arith, filled-none _ _, refl, λ k h. absurd (omega arith))
 
 mul-high : tie.Need-mul-high Inv-loop μ-loop

@@ -5,7 +5,7 @@ use Rattle.hex.proofs.Steps.{table-digit}
 use Rattle.hex.specs.declared.Line.the-variants.{Shaped, Unshaped}
 use Rattle.hex.specs.Steps.{sumFrom, pastEnd}
 use Rattle.hex.specs.Digits.{digit}
-use Rattle.image.proofs.Lists.{length-tabulate}
+use Rattle.laws.proofs.Lists.{length-tabulate}
 use native.Mathlib.Omega.{arith}
 use lib.ListN.{length, getD, take}
 use mathlib.Core.Path.{_≡_, refl, sym, _∙_, ap}

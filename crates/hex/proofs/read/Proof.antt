@@ -33,7 +33,7 @@ slice-aggregate-collect-3 : tie.Need-slice-aggregate-collect-3
 slice-aggregate-collect-3 c = search needs
 
 collect-requires : tie.Need-collect-requires
-unfolding blank Rattle.image.specs.Lists.tabulate Rattle.hex.specs.Digits.digit
+unfolding blank Rattle.laws.specs.Lists.tabulate Rattle.hex.specs.Digits.digit
 collect-requires c κs = (refl, omega arith, refl, refl)
 
 enum-told : tie.Need-enum-told

@@ -3,7 +3,7 @@
 use borrow.Author.Needs.{needs}
 use Rattle.hex.proofs.Steps.{stored-none, stored-more, stored-past}
 use Rattle.hex.specs.Steps.{storedAt}
-use Rattle.image.proofs.Lists.{first-is, first-none, is-tabulate}
+use Rattle.laws.proofs.Lists.{first-is, first-none, is-tabulate}
 use native.Mathlib.Omega.{arith}
 use borrow.Author.Count.{below-more}
 use borrow.Author.Tests.{lt-ltb, le-ltb, eq-eqb, ne-eqb}

@@ -1,6 +1,6 @@
 -- `image::fill` meets its contract: the rows passed are the image's and the others as lent; the measure is what is left of the font.
 -- Assumes nothing.
-use Rattle.image.proofs.Lists.{Filled, filled-none, filled-more, filled-whole}
+use Rattle.laws.proofs.Lists.{Filled, filled-none, filled-more, filled-whole}
 use borrow.Author.Needs.{needs}
 use Rattle.image.specs.Image.{rowIn}
 use native.Mathlib.Omega.{arith}

@@ -3,7 +3,7 @@
 use lib.Dec.{ltb}
 use native.Mathlib.Nat.{not-suc-le-zero}
 use borrow.Author.Needs.{needs}
-use Rattle.image.proofs.Lists.{first-is, first-none}
+use Rattle.laws.proofs.Lists.{first-is, first-none}
 use Rattle.image.specs.Image.{lacksAt}
 use native.Mathlib.Omega.{arith}
 use borrow.Author.Count.{below-more, below-none}

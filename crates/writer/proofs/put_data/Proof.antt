@@ -9,7 +9,7 @@ use borrow.Author.Needs.{needs}
 use lib.ListN.{length}
 use lib.Seq.{length-sets, sets}
 use Rattle.image.specs.Image.{dueAt}
-use Rattle.image.specs.Lists.{tabulate}
+use Rattle.laws.specs.Lists.{tabulate}
 use Rattle.image.proofs.Turning.{font-length, font-row}
 use Rattle.hex.specs.Lines.{total}
 use Rattle.writer.specs.Text.{byteText, bytesText}

@@ -5,7 +5,7 @@ use Prim.Native.Nat.{_+_, _*_, _/_, _%_}
 use borrow.Author.Needs.{needs}
 use lib.ListN.{getD}
 use Rattle.image.specs.Image.{imageOf}
-use Rattle.image.proofs.Lists.{length-tabulate}
+use Rattle.laws.proofs.Lists.{length-tabulate}
 use Rattle.writer.specs.Text.{bytesIn, recordIn}
 use Rattle.writer.proofs.Spelling.{frame-sum, record-stored}
 use Rattle.writer.proofs.put_record.Statement.{statement}

@@ -8,7 +8,7 @@ use borrow.Author.Needs.{needs}
 use lib.ListN.{length}
 use lib.Seq.{sets, length-sets}
 use Rattle.image.specs.Image.{imageOf}
-use Rattle.image.specs.Lists.{tabulate}
+use Rattle.laws.specs.Lists.{tabulate}
 use Rattle.writer.specs.Text.{recordText, recordIn}
 use Rattle.writer.specs.Steps.{frontText, backText}
 use Rattle.writer.proofs.Lists.{sets-three, sets-more, flat-length}

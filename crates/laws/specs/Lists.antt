@@ -1,10 +1,10 @@
--- Lists given by a rule, and the first number that passes a test: two words that the accounts of the image and of its text share.
+-- Lists given by a rule, and the first number that passes a test.
 -- Assumes nothing.
 use Prim.Native.Nat.{ℕ, zero, suc}
 use mathlib.Core.Bool.{Bool}
 use mathlib.Core.List.{List, [], _∷_}
 use lib.Dec.{ltb}
 use Rattle.laws.specs.Pick.{pick}
 
 -- f at 0, 1 and so on: n in all
 unfoldable pub tabulate : {A : Type 0} → ℕ → (ℕ → A) → List A

@@ -9,10 +9,10 @@ use native.Mathlib.Nat.{le-of-suc-le-suc, not-suc-le-zero}
 use native.Mathlib.Numerals.{add-one}
 use native.Mathlib.Decide.{ℕ-discrete, decLt}
 use native.Mathlib.Omega.{arith}
-use lib.ListN.{length, getD, set, drop, length-append, length-drop, length-set, List·getD-append}
+use lib.ListN.{length, getD, set, take, drop, replicate, length-append, length-drop, length-set, List·getD-append}
 use lib.Seq.{ext-getD, getD-set-same, getD-set-other, getD-append-add, getD-drop}
 use Rattle.laws.specs.Pick.{pick, both}
-use Rattle.image.specs.Lists.{tabulate, firstOf}
+use Rattle.laws.specs.Lists.{tabulate, firstOf}
 
 -- both tests hold where their conjunction does
 pub both-parts : (a b : Bool) → both a b ≡ true → (a ≡ true) × (b ≡ true)
@@ -40,6 +40,18 @@ unfolding tabulate
 tabulate-same zero f g h = refl
 tabulate-same (suc n) f g h =
     ap (λ a. a ∷ tabulate n (λ k. f (suc k))) (h 0 (omega arith)) ∙ ap (λ l. g 0 ∷ l) (tabulate-same n (λ k. f (suc k)) (λ k. g (suc k)) (λ k l. h (suc k) (omega arith)))
+
+-- a list cut at a smaller length
+pub tabulate-cut : {A : Type 0} (m n : ℕ) (f : ℕ → A) → m ≤ n → take m (tabulate n f) ≡ tabulate m f
+unfolding tabulate
+tabulate-cut zero n f le = refl
+tabulate-cut (suc m) zero f le = absurd (omega arith)
+tabulate-cut (suc m) (suc n) f le = ap (λ l. f 0 ∷ l) (tabulate-cut m n (λ k. f (suc k)) (omega arith))
+
+pub tabulate-constant : {A : Type 0} (a : A) (n : ℕ) → replicate n a ≡ tabulate n (λ k. a)
+unfolding tabulate
+tabulate-constant a zero = refl
+tabulate-constant a (suc n) = ap (λ l. a ∷ l) (tabulate-constant a n)
 
 -- the first that passes: none below it does, and it does itself unless it is n
 pub first-is : (n : ℕ) (test : ℕ → Bool) (k : ℕ) → k < n → ((j : ℕ) → j < k → test j ≡ false) → test k ≡ true → firstOf n test ≡ k
