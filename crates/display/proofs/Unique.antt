@@ -11,23 +11,23 @@ use Rattle.display.specs.declared.Painted.the-variants.{Done, BadSetting
 use Rattle.display.specs.Painting.{said}
 use Rattle.display.proofs.paint as paint
 
--- the case of a number
-numbered : ℕ → Painted
-numbered n =
+-- the case that a number means
+meant : ℕ → Painted
+meant n =
     pick (eqb n 0) Done (pick (eqb n 1) BadSetting (pick (eqb n 2) ReservedRatio (pick (eqb n 3) BadWords (pick (eqb n 4) BadFont (pick (eqb n 5) OffScreen NoRoom)))))
 
-numbered-said : (r : Painted) → numbered (said r .number) ≡ r
-unfolding numbered
-numbered-said Done = refl
-numbered-said BadSetting = refl
-numbered-said ReservedRatio = refl
-numbered-said BadWords = refl
-numbered-said BadFont = refl
-numbered-said OffScreen = refl
-numbered-said NoRoom = refl
+meant-said : (r : Painted) → meant (said r .number) ≡ r
+unfolding meant
+meant-said Done = refl
+meant-said BadSetting = refl
+meant-said ReservedRatio = refl
+meant-said BadWords = refl
+meant-said BadFont = refl
+meant-said OffScreen = refl
+meant-said NoRoom = refl
 
 pub said-one : (r r′ : Painted) → said r ≡ said r′ → r ≡ r′
-said-one = told-apart said (λ a. numbered (a .number)) numbered-said
+said-one = told-apart said (λ a. meant (a .number)) meant-said
 
 pub paint-unique : Determines paint.ended (λ w. paint.clauses (w .𝓤) (w .H) (w .𝓖 .A) (w .𝓜 .mem) (w .𝓡 .run))
 paint-unique w κs a g g′ r r′ ws ws′ =
