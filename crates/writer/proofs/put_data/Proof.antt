@@ -7,12 +7,12 @@ use mathlib.Core.List.{List}
 use native.Mathlib.Omega.{arith}
 use borrow.Author.Needs.{needs}
 use lib.ListN.{length}
-use lib.Seq.{length-sets, sets}
+use lib.Seq.{sets}
 use Rattle.image.specs.Image.{dueAt}
 use Rattle.laws.specs.Lists.{tabulate}
 use Rattle.image.proofs.Turning.{font-length, font-row}
 use Rattle.hex.specs.Lines.{total}
-use Rattle.writer.specs.Text.{byteText, bytesText}
+use Rattle.writer.specs.Text.{bytesText}
 use Rattle.writer.specs.Steps.{rowsIn}
 use Rattle.writer.proofs.Spelling.{Spelled, spelled-none, spelled-more}
 use Rattle.writer.proofs.Rows.{bytes-due, rows-most, row-below, due-row, due-none}
@@ -125,7 +125,7 @@ loop2-again c =
     let put = c .before .before .before .put-byte2 .ensures in (
       omega arith,
       omega arith,
-      ap length put ∙ length-sets (l .text) (s .args .at + 2 * l .i) (byteText 255) ∙ l .inv .2,
+      omega arith,
       λ t before.
           spelled-more _ (s .args .at) t (l .i) (l .sum) (l .text) _ _ _ (due-none (s .args .n) (omega arith) (s .args .font .now) (l .i) (omega arith) (omega arith)) put
           (c .wrapping-add-u82 .ensures) (l .inv .3 t before),

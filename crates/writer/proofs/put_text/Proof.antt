@@ -1,12 +1,12 @@
 -- `writer::put_text`. The loop keeps that the lines of the records so far stand at the front of the text; the end record's line follows.
 -- Assumes nothing.
-use Prim.Native.Nat.{_*_, _-_, _≤_}
-use mathlib.Core.Path.{_≡_, refl, _∙_, ap}
+use Prim.Native.Nat.{_-_, _≤_}
+use mathlib.Core.Path.{_≡_, refl}
 use mathlib.Core.List.{flatMap}
 use native.Mathlib.Omega.{arith}
 use borrow.Author.Needs.{needs}
 use lib.ListN.{length}
-use lib.Seq.{sets, length-sets}
+use lib.Seq.{sets}
 use Rattle.image.specs.Image.{imageOf}
 use Rattle.laws.specs.Lists.{tabulate}
 use Rattle.writer.specs.Text.{recordText, recordIn}
@@ -43,7 +43,7 @@ loop-again c =
     let image = imageOf (s .args .font .now) in
     let put = c .before .before .put-record .ensures in (
       omega arith,
-      ap length put ∙ length-sets (l .text) (44 * l .n) (recordText (recordIn image (l .n))) ∙ l .inv .1,
+      omega arith,
       rw (put, l .inv .2) (sets-more recordText 44 (recordIn image) (line-length image) (s .args .text .now) 0 (l .n) _ (omega arith)),
     )
 

@@ -22,7 +22,7 @@ returns-2 : tie.Need-returns-2
 unfolding answerOf leftOf
 returns-2 c =
     let e = sym (c .before .before .is-font .ensures) ∙ not-false _ (c .before .if1 .left) in
-    let g = lt-ltb _ _ (c .if2 .taken) in
+    let g = lt-ltb (length (c .before .before .before .before .before .args .text .now)) 22540 (omega arith) in
     (simp (e, g), simp (e, g))
 
 put-text-requires : tie.Need-put-text-requires
