@@ -86,7 +86,7 @@ module _ (es : List (List ℕ)) (r : List ℕ) where
   unfolding gives
   apart-fresh h =
       let e = first-none (lengthOf r) (λ i. isGiven es (addressOf r + i)) (λ i l.
-          h (addressOf r + i) (simp (le-leb (addressOf r) (addressOf r + i) (omega arith), lt-ltb (addressOf r + i) (addressOf r + lengthOf r) (omega arith)))) in
+      h (addressOf r + i) (simp (le-leb (addressOf r) (addressOf r + i) (omega arith), lt-ltb (addressOf r + i) (addressOf r + lengthOf r) (omega arith)))) in
       omega arith
 
 -- given by some of them, by place
@@ -152,7 +152,7 @@ module _ (rs : List (List ℕ)) (k : ℕ) (size : length rs ≡ k + 1) (past : (
         fine = λ j h. no-fault (take j rs) (nth rs j) (fault-at j h) .0;
         apart = λ i j hi hj ne a gi gj. side i j hi hj ne a gi gj (decLt i j);
         going = λ j h. going-on rs j (past j h) .1;
-        ends = ended
+        ends = ended;
       }
     where
       side : (i j : ℕ) → i ≤ k → j ≤ k → (i ≡ j → ⊥) → (a : ℕ) → gives (nth rs i) a ≡ true → gives (nth rs j) a ≡ true → Dec (i < j) → ⊥
@@ -168,14 +168,16 @@ good-of text n e =
   where
     number : {s s′ : Said} → s ≡ s′ → s .number ≡ s′ .number
     number e = ap (λ (s : Said). s .number) e
+
     stops : (b : Bool) → ltb 0 (faultAt (records text) (stopOf (records text))) ≡ b → b ≡ false
         → pick b true (isEnd (nth (records text) (stopOf (records text)))) ≡ true → isEnd (nth (records text) (stopOf (records text))) ≡ true
     stops true h e t = never e
     stops false h e t = t
+
     go : (a : Bool) → ltb (stopOf (records text)) (length (records text)) ≡ a → (f : Bool) → ltb 0 (faultAt (records text) (stopOf (records text))) ≡ f
         → (l : Bool) → ltb (stopOf (records text) + 1) (length (records text)) ≡ l
         → pick a (pick f (refused (faultAt (records text) (stopOf (records text))) (placeOf (lines text) (stopOf (records text))))
-            (pick l (refused 12 (placeOf (lines text) (stopOf (records text) + 1))) (accepted (countOf (records text))))) (refused 12 (placeOf (lines text) (stopOf (records text)))) ≡ accepted n
+        (pick l (refused 12 (placeOf (lines text) (stopOf (records text) + 1))) (accepted (countOf (records text))))) (refused 12 (placeOf (lines text) (stopOf (records text)))) ≡ accepted n
         → Good (records text)
     go false ea f ef l el e = absurd (omega (arith, number e))
     go true ea true ef l el e = absurd (omega (arith, number e, ltb-true 0 (faultAt (records text) (stopOf (records text))) ef))
@@ -245,7 +247,7 @@ module _ (rs rs′ : List (List ℕ)) (order : Reordered rs rs′) (all : Good r
             all .apart (order .to i) (order .to j) (to-within i hi) (to-within j hj) (other-place i j ne) a
             (sym (ap (λ (r : List ℕ). gives r a) (there i hi)) ∙ gi) (sym (ap (λ (r : List ℕ). gives r a) (there j hj)) ∙ gj);
         going = λ j h. ap isEnd (there j (omega arith)) ∙ all .going (order .to j) (omega (arith, order .within j (omega (arith, all .size)), all .size));
-        ends = ap isEnd (there (all .last) (omega arith) ∙ ap (nth rs) (order .last (all .last) (sym (all .size)))) ∙ all .ends
+        ends = ap isEnd (there (all .last) (omega arith) ∙ ap (nth rs) (order .last (all .last) (sym (all .size)))) ∙ all .ends;
       }
 
 -- the byte at an address is that of the first record that gives one
@@ -305,8 +307,8 @@ module _ (rs rs′ : List (List ℕ)) (order : Reordered rs rs′) (all : Good r
           given-here a _ h g ∙ sym (given-there a _ h g)
       go (no h) =
           let none : isGiven rs a ≡ false = none-given rs a (λ j l g.
-              let most = first-most (length rs) (λ j. gives (nth rs j) a) in
-              never (sym g ∙ first-before (length rs) (λ j. gives (nth rs j) a) j (omega arith))) in
+          let most = first-most (length rs) (λ j. gives (nth rs j) a) in
+          never (sym g ∙ first-before (length rs) (λ j. gives (nth rs j) a) j (omega arith))) in
           in-none 255 rs a none ∙ sym (in-none 255 rs′ a (not-there a none))
 
   pub reordered-image : tabulate 8192 (byteIn 255 rs) ≡ tabulate 8192 (byteIn 255 rs′)
@@ -316,6 +318,7 @@ module _ (rs rs′ : List (List ℕ)) (order : Reordered rs rs′) (all : Good r
 pub order-verdict : (text text′ : List ℕ) (n : ℕ) → Reordered (records text) (records text′) → verdict text ≡ accepted n
     → (verdict text′ ≡ accepted (countOf (records text′))) × (imageIn text ≡ imageIn text′)
 order-verdict text text′ n order e =
-    let all = good-of text n e in
-    (good-judged (records text′) (reordered-good (records text) (records text′) order all) (lines text′),
-     reordered-image (records text) (records text′) order all)
+    let all = good-of text n e in (
+      good-judged (records text′) (reordered-good (records text) (records text′) order all) (lines text′),
+      reordered-image (records text) (records text′) order all,
+    )

@@ -69,12 +69,12 @@ loop-again c =
     let shows : ℕ → ℕ = λ d. bitByte (a .bits) (d / a .size) (a .on) (a .off) in
     let more : l .j * a .size + a .size ≡ (l .j + 1) * a .size = omega arith in
     let e =
-        c .before .before .span .ensures
-        ∙ ap (λ (t : List ℕ). overlay (patched (a .x .0 + l .j * a .size) (a .size) (λ d. byte)) t) (l .inv .1 .0)
-        ∙ overlay-twice (patched (a .x .0) (l .j * a .size) shows) (patched (a .x .0 + l .j * a .size) (a .size) (λ d. byte)) 0 (a .out .now)
-        ∙ overlay-same _ (patched (a .x .0) (l .j * a .size + a .size) shows) (a .out .now) (λ k old. patched-more (a .x .0) shows (l .j * a .size) (a .size) byte k old
-        (λ d le lt. c .before .before .before .bit-byte .ensures ∙ ap (λ (q : ℕ). bitByte (a .bits) q (a .on) (a .off)) (sym (part-at (l .j) (a .size) d le lt))))
-        ∙ ap (λ (m : ℕ). overlay (patched (a .x .0) m shows) (a .out .now)) more in
+    c .before .before .span .ensures
+    ∙ ap (λ (t : List ℕ). overlay (patched (a .x .0 + l .j * a .size) (a .size) (λ d. byte)) t) (l .inv .1 .0)
+    ∙ overlay-twice (patched (a .x .0) (l .j * a .size) shows) (patched (a .x .0 + l .j * a .size) (a .size) (λ d. byte)) 0 (a .out .now)
+    ∙ overlay-same _ (patched (a .x .0) (l .j * a .size + a .size) shows) (a .out .now) (λ k old. patched-more (a .x .0) shows (l .j * a .size) (a .size) byte k old
+    (λ d le lt. c .before .before .before .bit-byte .ensures ∙ ap (λ (q : ℕ). bitByte (a .bits) q (a .on) (a .off)) (sym (part-at (l .j) (a .size) d le lt))))
+    ∙ ap (λ (m : ℕ). overlay (patched (a .x .0) m shows) (a .out .now)) more in
     (omega arith, (e, ap length e ∙ overlay-length (patched (a .x .0) ((l .j + 1) * a .size) shows) 0 (a .out .now)))
 
 same-length : tie.Need-same-length Inv-loop μ-loop
