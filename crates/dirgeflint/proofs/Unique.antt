@@ -15,6 +15,8 @@ use Rattle.dirgeflint.proofs.port_face.dirgeflint_port_fresh as port-fr
 use Rattle.dirgeflint.proofs.port_face.dirgeflint_port_write_address as port-write-address
 use Rattle.dirgeflint.proofs.port_face.dirgeflint_port_write_attribute as port-write-attribute
 use Rattle.dirgeflint.proofs.port_face.dirgeflint_port_write_character as port-write-character
+use Rattle.dirgeflint.proofs.hex_face.dirgeflint_hex_read as hex-read
+use Rattle.dirgeflint.proofs.hex_face.dirgeflint_image_to_font as image-to-font
 use Rattle.dirgeflint.proofs.pulse_face.dirgeflint_pulse_level as pulse-level
 use Rattle.dirgeflint.proofs.writer_face.dirgeflint_hex_write as hex-write
 
@@ -63,3 +65,12 @@ dirgeflint-paint-unique w κs a g g′ r r′ ws ws′ =
 -- the text that the host lent
 pub dirgeflint-hex-write-unique : Determines hex-write.ended (λ w. hex-write.clauses (w .𝓤) (w .H) (w .𝓖 .A) (w .𝓜 .mem) (w .𝓡 .run))
 dirgeflint-hex-write-unique w κs a g g′ r r′ ws ws′ = both-say w (λ p q. (one-answer r r′ (p .0 ∙ sym (q .0)), λ i. (tt, ((p .1 ∙ sym (q .1)) i, tt))))
+
+-- the image, and the font, that the host lent
+pub dirgeflint-hex-read-unique : Determines hex-read.ended (λ w. hex-read.clauses (w .𝓤) (w .H) (w .𝓖 .A) (w .𝓜 .mem) (w .𝓡 .run))
+dirgeflint-hex-read-unique w κs a g g′ r r′ ws ws′ =
+    both-say w (λ p q. (one-answer r r′ (p .0 ∙ sym (q .0)), λ i. (tt, ((p .1 ∙ sym (q .1)) i, tt))))
+
+pub dirgeflint-image-to-font-unique : Determines image-to-font.ended (λ w. image-to-font.clauses (w .𝓤) (w .H) (w .𝓖 .A) (w .𝓜 .mem) (w .𝓡 .run))
+dirgeflint-image-to-font-unique w κs a g g′ r r′ ws ws′ =
+    both-say w (λ p q. (one-answer r r′ (p .0 ∙ sym (q .0)), λ i. (tt, ((p .1 ∙ sym (q .1)) i, tt))))

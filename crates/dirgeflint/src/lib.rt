@@ -2,6 +2,7 @@
 // function below it promises, by the same definitions.
 mod dac_face;
 mod display_face;
+mod hex_face;
 mod port_face;
 mod pulse_face;
 mod writer_face;

@@ -90,7 +90,7 @@ module _ (es : List (List ℕ)) (r : List ℕ) where
       omega arith
 
 -- given by some of them, by place
-given-none : (es : List (List ℕ)) (a : ℕ) → isGiven es a ≡ false → (j : ℕ) → j < length es → gives (nth es j) a ≡ true → ⊥
+pub given-none : (es : List (List ℕ)) (a : ℕ) → isGiven es a ≡ false → (j : ℕ) → j < length es → gives (nth es j) a ≡ true → ⊥
 unfolding isGiven
 given-none [] a e j h g = absurd (not-suc-le-zero h)
 given-none (r ∷ es) a e zero h g = never (sym (ap (λ b. pick b true (isGiven es a)) g) ∙ e)
@@ -100,7 +100,7 @@ given-none (r ∷ es) a e (suc j) h g = go (gives r a) e (λ f. given-none es a 
     go true e k = never e
     go false e k = k e
 
-none-given : (es : List (List ℕ)) (a : ℕ) → ((j : ℕ) → j < length es → gives (nth es j) a ≡ true → ⊥) → isGiven es a ≡ false
+pub none-given : (es : List (List ℕ)) (a : ℕ) → ((j : ℕ) → j < length es → gives (nth es j) a ≡ true → ⊥) → isGiven es a ≡ false
 unfolding isGiven
 none-given [] a h = refl
 none-given (r ∷ es) a h = go (gives r a) refl (none-given es a (λ j l g. h (suc j) (omega arith) g))
@@ -264,7 +264,7 @@ in-at none (r ∷ rs) a (suc j) h g before =
     go false e ih = ih
 
 module _ (rs rs′ : List (List ℕ)) (order : Reordered rs rs′) (all : Good rs) where
-  from-within : (j : ℕ) → j < length rs → order .from j < length rs
+  pub from-within : (j : ℕ) → j < length rs → order .from j < length rs
   from-within j h = go (ℕ-discrete (j + 1) (length rs))
     where
       go : Dec (j + 1 ≡ length rs) → order .from j < length rs
@@ -289,7 +289,7 @@ module _ (rs rs′ : List (List ℕ)) (order : Reordered rs rs′) (all : Good r
       let last = all .size in
       in-at 255 rs a j h g (λ i l gi. all .apart i j (omega arith) (omega arith) (omega arith) a gi g)
 
-  not-there : (a : ℕ) → isGiven rs a ≡ false → isGiven rs′ a ≡ false
+  pub not-there : (a : ℕ) → isGiven rs a ≡ false → isGiven rs′ a ≡ false
   not-there a e =
       none-given rs′ a (λ j l g.
       let last = all .size in

@@ -1,0 +1,22 @@
+-- What the struct tells is what is said of the reader's case; the image is as the reader leaves it.
+-- Assumes nothing.
+use mathlib.Core.Path.{_∙_}
+use borrow.Author.Needs.{needs}
+use Rattle.dirgeflint.proofs.hex_face.dirgeflint_hex_read.Statement.{statement}
+use Rattle.dirgeflint.proofs.hex_face.dirgeflint_hex_read.Tie as tie
+
+read-requires : tie.Need-read-requires
+read-requires c κs = search needs
+
+read-answer-requires : tie.Need-read-answer-requires
+read-answer-requires c κs = search needs
+
+same-length : tie.Need-same-length
+same-length c = search needs
+
+returns : tie.Need-returns
+returns c = (c .read-answer .ensures ∙ c .before .before .before .read .ensures .0, c .before .before .before .read .ensures .1)
+
+pub dirgeflint-hex-read-spec : {M : Type 1} → statement M
+dirgeflint-hex-read-spec =
+    tie.close (tie.spec read-requires read-answer-requires same-length returns)
