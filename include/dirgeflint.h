@@ -130,6 +130,45 @@ dirgeflint_answer dirgeflint_paint(const uint16_t *words, size_t words_length, c
                                    dirgeflint_settings settings, uint32_t frame, uint32_t line, uint32_t width, uint8_t *dots,
                                    size_t dots_length);
 
+/*
+ * The character image and its text. A font is 1,116 rows as for dirgeflint_paint. An image is 8,192 bytes: row l of cell c has its low 8 bits at
+ * 32c + l and its high 4 at 4096 + 32c + l, in a byte whose upper four bits are set; every other byte is FF. The text is Intel's hexadecimal
+ * object format, record types 00 and 01 only.
+ */
+
+/*
+ * Reads a text: the image that its records spell goes to the first 8,192 bytes of image, FF where no record gives a byte. Later bytes stay.
+ * Digits of either case; lines end in LF or CR LF, and the last may lack its end.
+ *
+ * value   how many bytes the records give.
+ * Refuses 6: image_length below 8,192
+ *         7: text_length above 65,535 (place 0); or a line that has not the shape of a record
+ *         8: a record whose bytes do not sum to 0
+ *         9: another type, or a type 01 with a length or an address that is not 0
+ *        10: address plus length above 8,192
+ *        11: a byte that an earlier record gives already
+ *        12: no end record (place: text_length), or bytes after its line (place: the first of them)
+ * For 7 to 11 the first faulty record is refused, and place is where its line starts.
+ */
+dirgeflint_answer dirgeflint_hex_read(const uint8_t *text, size_t text_length, uint8_t *image, size_t image_length);
+
+/*
+ * Writes a font: the text of its image goes to the first 22,540 bytes of text, 512 records of 16 bytes by rising address and the end
+ * record, in upper case, each line ended by LF. Later bytes stay.
+ *
+ * Refuses 4: not 1,116 rows, or a row above 4095
+ *         6: text_length below 22,540
+ */
+dirgeflint_answer dirgeflint_hex_write(const uint16_t *font, size_t font_length, uint8_t *text, size_t text_length);
+
+/*
+ * Turns an image into the font whose image it is.
+ *
+ * Refuses 13: image_length not 8,192 or font_length not 1,116 (place 0); or a bit that is not set where an image has FF or set upper bits
+ *             (place: the lowest such address)
+ */
+dirgeflint_answer dirgeflint_image_to_font(const uint8_t *image, size_t image_length, uint16_t *font, size_t font_length);
+
 #ifdef __cplusplus
 }
 #endif
