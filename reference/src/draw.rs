@@ -96,9 +96,14 @@ pub fn font(drawing: &str) -> Result<Vec<u16>, Complaint> {
     Ok(rows)
 }
 
+/// The image of a drawing.
+pub fn image(drawing: &str) -> Result<Vec<u8>, Complaint> {
+    Ok(image::of_font(&font(drawing)?))
+}
+
 /// The hex text of a drawing.
 pub fn text(drawing: &str) -> Result<String, Complaint> {
-    Ok(written_text(&image::of_font(&font(drawing)?)))
+    Ok(written_text(&image(drawing)?))
 }
 
 #[cfg(test)]

@@ -1,23 +1,28 @@
-//! `draw FONT.txt > FONT.hex`: turns a drawn font into its hex text.
+//! `draw [--image] FONT.txt`: turns a drawn font into its hex text or, with --image, into its image of 8,192 bytes.
 
 use std::io::Write;
 use std::process::ExitCode;
 
-fn text_of(file: &str) -> Result<String, String> {
+fn made_of(file: &str, image: bool) -> Result<Vec<u8>, String> {
     let bytes = std::fs::read(file).map_err(|error| format!("{file} cannot be read: {error}"))?;
     let drawing =
         String::from_utf8(bytes).map_err(|_| format!("{file} is no plain text; save it as UTF-8 or ASCII"))?;
-    reference::draw::text(&drawing).map_err(|complaint| format!("{file}, {complaint}"))
+    let made = if image { reference::draw::image(&drawing) } else { reference::draw::text(&drawing).map(String::into_bytes) };
+    made.map_err(|complaint| format!("{file}, {complaint}"))
 }
 
 fn main() -> ExitCode {
     let arguments: Vec<String> = std::env::args().skip(1).collect();
-    let [file] = arguments.as_slice() else {
-        eprintln!("draw: give one drawing, and send the text to a file: draw FONT.txt > FONT.hex");
-        return ExitCode::from(2);
+    let (file, image) = match arguments.iter().map(String::as_str).collect::<Vec<_>>()[..] {
+        [file] if file != "--image" => (file, false),
+        ["--image", file] => (file, true),
+        _ => {
+            eprintln!("draw: give one drawing, and send the text to a file: draw FONT.txt > FONT.hex");
+            return ExitCode::from(2);
+        }
     };
-    let written = text_of(file).and_then(|text| {
-        std::io::stdout().write_all(text.as_bytes()).map_err(|error| format!("the text cannot be written: {error}"))
+    let written = made_of(file, image).and_then(|bytes| {
+        std::io::stdout().write_all(&bytes).map_err(|error| format!("the answer cannot be written: {error}"))
     });
     match written {
         Ok(()) => ExitCode::SUCCESS,
