@@ -1,7 +1,7 @@
 -- Laws of the reader's steps: the digit table, the end of a line, the running checksum, the scratch.
 -- Assumes nothing.
 use mathlib.Core.Path.{_≡_, refl, sym, _∙_, ap}
-use mathlib.Core.Bool.{Bool, true, false}
+use mathlib.Core.Bool.{Bool, true, false, false≢true}
 use mathlib.Core.List.{List, [], _∷_}
 use Prim.Native.Nat.{ℕ, zero, suc, _+_, _-_, _*_, _%_, _<_, _≤_}
 use native.Mathlib.Nat.{mod-add-mod, add-zero}
@@ -11,10 +11,11 @@ use native.Mathlib.Omega.{arith}
 use lib.Dec.{eqb, leb, ltb}
 use lib.ListN.{length, getD, set, take, drop, length-drop, drop-of-length-le, List·getD-eq-default, length-set}
 use lib.Seq.{drop-cons, getD-drop, getD-take, length-take-le, getD-set-same, getD-set-other}
-use borrow.Author.Tests.{lt-ltb, le-ltb, le-leb, lt-leb}
+use borrow.Author.Count.{below-more}
+use borrow.Author.Tests.{lt-ltb, le-ltb, le-leb, lt-leb, eq-eqb, ne-eqb}
 use Rattle.laws.specs.Pick.{pick, both}
-use Rattle.laws.specs.Lists.{tabulate}
-use Rattle.laws.proofs.Lists.{getD-tabulate}
+use Rattle.laws.specs.Lists.{tabulate, firstOf}
+use Rattle.laws.proofs.Lists.{getD-tabulate, first-none, first-before}
 use Rattle.hex.specs.Digits.{digit, byteAt}
 use Rattle.hex.specs.Lines.{atEnd, total}
 use Rattle.hex.specs.Records.{allDigits}
@@ -109,6 +110,20 @@ digits-more text place i before high low k h = go (decLt k (2 * i)) (ℕ-discret
     go (yes l) d = before k l
     go (no l) (yes d) = rw d high
     go (no l) (no d) = let e : place + k ≡ place + 2 * i + 1 = omega arith in rw e low
+
+-- whether none of i + 1 numbers passes a test: not where the last does, and else as for those before it
+module _ (i : ℕ) (test : ℕ → Bool) where
+  pub none-ends : test i ≡ true → false ≡ eqb (firstOf (i + 1) test) (i + 1)
+  none-ends e = sym (ne-eqb _ _ (λ (d : firstOf (i + 1) test ≡ i + 1). false≢true (sym (first-before (i + 1) test i (omega arith)) ∙ e)))
+
+  pub none-more : test i ≡ false → eqb (firstOf i test) i ≡ eqb (firstOf (i + 1) test) (i + 1)
+  none-more e = go (ℕ-discrete (firstOf i test) i)
+    where
+      go : Dec (firstOf i test ≡ i) → eqb (firstOf i test) i ≡ eqb (firstOf (i + 1) test) (i + 1)
+      go (yes d) =
+          eq-eqb _ _ d
+          ∙ sym (eq-eqb _ _ (first-none (i + 1) test (below-more (λ k. test k ≡ false) i (λ k h. first-before i test k (omega arith)) e)))
+      go (no d) = ne-eqb _ _ d ∙ sym (ne-eqb _ _ (λ (f : firstOf (i + 1) test ≡ i + 1). d (first-none i test (λ k h. first-before (i + 1) test k (omega arith)))))
 
 -- the scratch with n bytes stored: they lie from the address on, and the other cells are as they were
 module _ (bytes : List ℕ) (address n : ℕ) (cells : List ℕ) (a : ℕ) where

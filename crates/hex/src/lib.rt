@@ -209,21 +209,23 @@ fn past_end(text: &[u8], place: usize) -> usize
     0
 }
 
-// The data of a record into the scratch, unless one of its bytes is there already.
+// The data of a record into the scratch, and whether none of its bytes was there already: each cell is written all the same, so that
+// nothing but the length ends the loop.
 fn store(bytes: &[u8], n: usize, address: usize, cells: &mut [u16]) -> bool
     requires { ⌜ (4 + n ≤ length (now bytes)) × (address + n ≤ 8192) × (length (now cells) ≡ 8192) ⌝ }
     ensures { λ r. ⌜ (r ≡ eqb (firstOf n (λ i. ltb (getD (now (cells .entry)) (address + i) 0) 256)) n)
         × (r ≡ true → now (cells .exit) ≡ tabulate 8192 (storedAt (now (bytes .entry)) address n (now (cells .entry)))) ⌝ }
 {
+    let mut fresh = true;
     let mut i = 0usize;
     while i < n {
         if cells[address + i] < 256 {
-            return false;
+            fresh = false;
         }
         cells[address + i] = bytes[4 + i] as u16;
         i += 1;
     }
-    true
+    fresh
 }
 
 // The scratch as bytes, into the first 8,192 bytes lent.
