@@ -6,7 +6,7 @@ use mathlib.Core.List.{List, [], _∷_, _++_}
 use lib.Dec.{eqb, ltb}
 use lib.ListN.{length, replicate}
 use Rattle.laws.specs.Pick.{pick}
-use Rattle.laws.specs.Said.{Said, accepted, refused}
+use Rattle.laws.specs.Said.{Said}
 use Rattle.font.specs.Font.{fontRows}
 use Rattle.image.specs.Image.{imageBytes}
 use Rattle.image.specs.Image.{answerOf as turning}

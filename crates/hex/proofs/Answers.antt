@@ -1,8 +1,8 @@
 -- The reader's answers at a line of the record's shape, in the values that the code has: the eight-bit sum and the next line's place as
 -- parsed, and the record's bytes in the scratch for one record. Each is the verdict, or the next turn's start.
 -- Assumes nothing.
-use mathlib.Core.Path.{_≡_, refl, sym, _∙_, ap}
-use mathlib.Core.Bool.{Bool, true, false}
+use mathlib.Core.Path.{_≡_, sym, _∙_, ap}
+use mathlib.Core.Bool.{true, false}
 use mathlib.Core.List.{List, [], _∷_, _++_}
 use Prim.Native.Nat.{ℕ, _+_, _-_, _*_, _<_, _≤_}
 use native.Mathlib.Omega.{arith}
@@ -12,12 +12,12 @@ use lib.ListN.{length, getD, take, drop}
 use lib.Seq.{take-all, take-suc}
 use borrow.Author.Tests.{eqb-true, eqb-false, le-leb, le-ltb}
 use Rattle.laws.specs.Pick.{pick}
-use Rattle.laws.specs.Said.{Said, accepted, refused}
+use Rattle.laws.specs.Said.{accepted, refused}
 use Rattle.laws.specs.Lists.{tabulate, firstOf}
 use Rattle.laws.proofs.Lists.{first-most, tabulate-same}
 use Rattle.hex.specs.Lines.{bodyOf}
 use Rattle.hex.specs.Records.{records, isShaped, lengthOf, addressOf, typeOf, sumOf, isEnd, freshIn, faultOf, byteIn, gives, dataAt}
-use Rattle.hex.specs.Reading.{verdict, nth}
+use Rattle.hex.specs.Reading.{verdict}
 use Rattle.hex.specs.Steps.{recordAt, nextAt, lineAt, storedAt}
 use Rattle.hex.specs.declared.Line.the-variants.{Shaped}
 use Rattle.hex.proofs.Faults.{is-end, other-type, long-end, far-end, fault-sum, fault-type, fault-end, fault-past, fault-twice, fault-none}
@@ -51,9 +51,6 @@ module _ (text : List ℕ) (at count : ℕ) (cells : List ℕ) (before : Passed 
   met-next =
       let fits = next-fits text at count cells before more shaped in
       (omega (arith, fits .0, next-is), omega (arith, fits .1, next-is, byte 0 (omega arith)))
-
-  pub met-room : 4 + getD bytes 0 0 ≤ length (recordAt text at)
-  met-room = omega (arith, whole, byte 0 (omega arith))
 
   pub met-sum : (sum ≡ 0 → ⊥) → refused 8 at ≡ verdict text
   met-sum h = fault-is 8 (omega arith) (fault-sum _ _ some (λ e. h (line-shaped text at sum next line .1 ∙ e)))

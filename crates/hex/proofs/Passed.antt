@@ -4,18 +4,17 @@
 use mathlib.Core.Path.{_≡_, refl, sym, _∙_, ap}
 use mathlib.Core.Bool.{Bool, true, false}
 use mathlib.Core.List.{List, [], _∷_, _++_, map}
-use Prim.Native.Nat.{ℕ, zero, suc, _+_, _-_, _*_, _%_, _<_, _≤_}
+use Prim.Native.Nat.{ℕ, zero, suc, _+_, _-_, _*_, _<_, _≤_}
 use native.Mathlib.Nat.{not-suc-le-zero, add-zero}
 use native.Mathlib.Numerals.{add-one}
-use native.Mathlib.Decide.{ℕ-discrete}
 use native.Mathlib.Omega.{arith}
 use lib.Dec.{eqb, ltb}
 use lib.ListN.{length, getD, take, drop, length-drop, length-map, length-replicate, getD-replicate, List·getD-map, drop-of-length-le}
-use lib.Seq.{getD-drop, getD-take, drop-drop, take-suc, take-all, length-take-le}
+use lib.Seq.{getD-drop, getD-take, drop-drop, take-suc, take-all}
 use borrow.Author.Tests.{lt-ltb, le-ltb}
 use borrow.Author.Count.{below-more}
 use Rattle.laws.specs.Pick.{pick}
-use Rattle.laws.specs.Said.{Said, accepted, refused}
+use Rattle.laws.specs.Said.{accepted, refused}
 use Rattle.laws.specs.Lists.{tabulate, firstOf}
 use Rattle.laws.proofs.Lists.{is-tabulate, first-is, first-none, first-same, first-before, getD-tabulate, length-tabulate}
 use Rattle.hex.specs.Digits.{byteAt}
@@ -23,7 +22,6 @@ use Rattle.hex.specs.Lines.{bodyOf, lines, onto, placeOf, total}
 use Rattle.hex.specs.Records.{frame, sumOf, addressOf, isGiven, freshIn, records, recordOf, spelledBy, isShaped, lengthOf, byteIn, countOf, faultOf, isEnd}
 use Rattle.hex.specs.Reading.{nth, faultAt, stopsAt, stopOf, judged, verdict}
 use Rattle.hex.specs.Steps.{blank, storedAt, recordAt, nextAt, lineAt}
-use Rattle.hex.specs.declared.Line.{Line}
 use Rattle.hex.specs.declared.Line.the-variants.{Shaped, Unshaped}
 use Rattle.hex.proofs.Lines.{first-body}
 use Rattle.hex.proofs.Shape.{shape-has}
@@ -66,11 +64,6 @@ line-unshaped text at e = go (isShaped (bodyOf (drop at text))) e
     go false e = refl
 
 -- sums over one element more
-total-append : (xs ys : List ℕ) → total (xs ++ ys) ≡ total xs + total ys
-unfolding total
-total-append [] ys = omega arith
-total-append (x ∷ xs) ys = omega (arith, total-append xs ys)
-
 map-append-one : (f : List ℕ → ℕ) (xs : List (List ℕ)) (x : List ℕ) → total (map f (xs ++ (x ∷ []))) ≡ total (map f xs) + f x
 unfolding total
 map-append-one f [] x = omega arith

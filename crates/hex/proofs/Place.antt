@@ -1,25 +1,23 @@
 -- What the reader's tests at a place of the text say of the line that starts there: they are the record's shape in the text's own places.
 -- Assumes nothing.
-use mathlib.Core.Path.{_≡_, refl, sym, _∙_, ap}
-use mathlib.Core.Bool.{Bool, true, false}
-use mathlib.Core.List.{List, [], _∷_}
-use Prim.Native.Nat.{ℕ, zero, suc, _+_, _-_, _*_, _%_, _<_, _≤_}
+use mathlib.Core.Path.{_≡_, sym, _∙_, ap}
+use mathlib.Core.Bool.{true}
+use mathlib.Core.List.{List, _∷_}
+use Prim.Native.Nat.{ℕ, _+_, _-_, _*_, _<_, _≤_}
 use native.Mathlib.Nat.{add-zero}
 use native.Mathlib.Omega.{arith}
 use lib.ListN.{length, getD, take, drop, length-drop}
 use lib.Seq.{getD-drop, drop-drop, length-take-le}
-use Rattle.laws.specs.Pick.{pick}
 use Rattle.laws.specs.Lists.{tabulate}
 use Rattle.laws.proofs.Lists.{tabulate-same, length-tabulate}
 use Rattle.hex.specs.Digits.{digit, byteAt}
-use Rattle.hex.specs.Lines.{atEnd, bodyOf, lines, total}
+use Rattle.hex.specs.Lines.{atEnd, bodyOf, lines}
 use Rattle.hex.specs.Records.{isShaped, spelledBy, sumOf}
 use Rattle.hex.specs.Steps.{bytesFrom, sumFrom, pastEnd, endLength, recordAt, nextAt, lineAt}
-use Rattle.hex.specs.declared.Line.{Line}
 use Rattle.hex.specs.declared.Line.the-variants.{Shaped, Unshaped}
 use Rattle.hex.proofs.Lines.{first-cut, end-fits}
 use Rattle.hex.proofs.Steps.{sum-good, sum-digits, past-some, past-ends}
-use Rattle.hex.proofs.Shape.{Shape, shape-is, shape-has, shape-spells, shape-plain, unshaped}
+use Rattle.hex.proofs.Shape.{Shape, shape-is, shape-spells, shape-plain, unshaped}
 
 -- how many bytes the record of the line asks for
 abbrev pub sizeAt : List ℕ → ℕ → ℕ

@@ -1,7 +1,7 @@
 -- The lines of a text: document 01, 'The character image', second paragraph. A line ends with LF or CR LF, and the last may lack its end.
 -- No byte is lost: the lines, each with its end, joined again are the text.
 -- Assumes nothing.
-use Prim.Native.Nat.{ℕ, zero, suc, _+_}
+use Prim.Native.Nat.{ℕ, _+_}
 use mathlib.Core.Bool.{Bool, true}
 use mathlib.Core.List.{List, [], _∷_, map}
 use lib.Dec.{eqb}

@@ -3,7 +3,6 @@
 use Prim.Native.Nat.{ℕ, zero, suc}
 use mathlib.Core.Bool.{Bool}
 use mathlib.Core.List.{List, [], _∷_}
-use lib.Dec.{ltb}
 use Rattle.laws.specs.Pick.{pick}
 
 -- f at 0, 1 and so on: n in all

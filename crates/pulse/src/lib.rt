@@ -1,6 +1,6 @@
 // The eight small pulse outputs: the level of a channel at one clock of its period.
 ghost use mathlib.Core.Path.{_≡_};
-ghost use Rattle.pulse.specs.Pulse.{answerOf, said, bitsOf, periodOf, keptOf};
+ghost use Rattle.pulse.specs.Pulse.{answerOf, said, periodOf, keptOf};
 
 pub enum Level {
     Low,

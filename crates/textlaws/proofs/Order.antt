@@ -4,20 +4,20 @@
 -- Assumes nothing.
 use mathlib.Core.Path.{_≡_, refl, sym, _∙_, ap, subst}
 use mathlib.Core.Bool.{Bool, true, false, not}
-use mathlib.Core.List.{List, [], _∷_, _++_, map}
-use Prim.Native.Nat.{ℕ, zero, suc, _+_, _-_, _*_, _<_, _≤_}
+use mathlib.Core.List.{List, [], _∷_}
+use Prim.Native.Nat.{ℕ, zero, suc, _+_, _-_, _<_, _≤_}
 use native.Mathlib.Nat.{not-suc-le-zero, le-of-suc-le-suc}
 use native.Mathlib.Decide.{decLt, ℕ-discrete}
 use native.Mathlib.Omega.{arith}
 use lib.Dec.{eqb, leb, ltb}
-use lib.ListN.{length, getD, take}
+use lib.ListN.{length, take}
 use lib.Seq.{getD-take, length-take-le}
 use borrow.Author.Tests.{ltb-true, ltb-false, leb-true, lt-ltb, le-ltb, le-leb, eqb-true, eqb-false, eq-eqb, ne-eqb}
-use Rattle.laws.specs.Pick.{pick, both}
+use Rattle.laws.specs.Pick.{pick}
 use Rattle.laws.specs.Said.{Said, accepted, refused}
 use Rattle.laws.specs.Lists.{tabulate, firstOf}
 use Rattle.laws.proofs.Lists.{both-parts, first-is, first-none, first-before, first-most, tabulate-same}
-use Rattle.hex.specs.Lines.{lines, placeOf, total}
+use Rattle.hex.specs.Lines.{lines, placeOf}
 use Rattle.hex.specs.Records.{records, lengthOf, addressOf, typeOf, sumOf, isEnd, gives, dataAt, byteIn, isGiven, freshIn, countOf, faultOf}
 use Rattle.hex.specs.Reading.{nth, faultAt, stopsAt, stopOf, judged, verdict, imageIn}
 use Rattle.hex.proofs.Given.{in-none}

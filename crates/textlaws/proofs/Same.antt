@@ -3,22 +3,21 @@
 -- Assumes nothing.
 use mathlib.Core.Path.{_≡_, refl, sym, _∙_, ap}
 use mathlib.Core.Bool.{Bool, true, false}
-use mathlib.Core.List.{List, [], _∷_, _++_, map}
-use Prim.Native.Nat.{ℕ, zero, suc, _+_, _-_, _*_, _<_, _≤_}
-use native.Mathlib.Nat.{not-suc-le-zero, le-of-suc-le-suc}
+use mathlib.Core.List.{List, [], _∷_, _++_}
+use Prim.Native.Nat.{ℕ, zero, suc, _+_, _-_, _*_, _<_}
 use native.Mathlib.Omega.{arith}
-use lib.Dec.{eqb, ltb}
-use lib.ListN.{length, getD, take, drop, length-append, length-drop, List·getD-append}
-use lib.Seq.{getD-drop, take-at, drop-at, ext-getD}
-use borrow.Author.Tests.{ltb-true, lt-ltb, eq-eqb}
-use Rattle.laws.specs.Pick.{pick, both}
+use lib.Dec.{ltb}
+use lib.ListN.{length, getD, drop, length-append, length-drop, List·getD-append}
+use lib.Seq.{getD-drop, take-at, drop-at}
+use borrow.Author.Tests.{ltb-true}
+use Rattle.laws.specs.Pick.{pick}
 use Rattle.laws.specs.Said.{Said, accepted, refused}
 use Rattle.laws.specs.Lists.{tabulate}
 use Rattle.laws.proofs.Lists.{tabulate-same}
 use Rattle.hex.specs.Digits.{digit, byteAt}
-use Rattle.hex.specs.Lines.{lines, atEnd, bodyOf, placeOf}
-use Rattle.hex.specs.Records.{records, recordOf, spelledBy, isShaped, allDigits, byteIn, countOf, gives, dataAt}
-use Rattle.hex.specs.Reading.{faultAt, stopOf, judged, verdict, imageIn, answerOf}
+use Rattle.hex.specs.Lines.{lines, atEnd, placeOf}
+use Rattle.hex.specs.Records.{records, recordOf, spelledBy, isShaped, allDigits, byteIn, countOf}
+use Rattle.hex.specs.Reading.{faultAt, stopOf, judged, verdict, imageIn}
 use Rattle.hex.proofs.Lines.{Plain, body-cut}
 
 -- whether lines are judged good depends on their records

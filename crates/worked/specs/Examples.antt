@@ -19,7 +19,7 @@ pub data Question : Type 0 where
   word : ℕ → Question
   -- the sub-periods to which a fine half adds a clock
   addsTo : ℕ → Question
-  -- of a pair, coarse then fine: its T, and the high clocks of so many sub-periods from one on
+  -- of a pair, coarse then fine: its T, the high clocks of so many sub-periods from one on, and 128 times their share of T
   highIn : ℕ → ℕ → ℕ → ℕ → Question
   -- by ratio and frequency: whether each of these frames is lit
   lit : ℕ → ℕ → List ℕ → Question
@@ -51,7 +51,8 @@ unfoldable pub answer : Question → List ℕ
 unfolding kindOf served highs
 answer (word w) = values (kindOf w)
 answer (addsTo fine) = served fine 0 128
-answer (highIn coarse fine first count) = total (pair coarse fine) ∷ highs coarse fine (subPeriod * first) (subPeriod * count) ∷ []
+answer (highIn coarse fine first count) =
+    total (pair coarse fine) ∷ highs coarse fine (subPeriod * first) (subPeriod * count) ∷ count * total (pair coarse fine) ∷ []
 answer (lit ratio frequency frames) = map (λ (frame : ℕ). number (litIn ratio frequency frame)) frames
 
 pub record Example : Type 0 where
@@ -75,9 +76,10 @@ table =
     ∷ example (addsTo 1) (64 ∷ [])
     ∷ example (addsTo 3) (32 ∷ 64 ∷ 96 ∷ [])
     ∷ example (addsTo 64) (bySeconds 1 64)
-    ∷ example (highIn 1 3 32 32) (131 ∷ 33 ∷ [])
-    ∷ example (highIn 127 127 0 128) (16383 ∷ 16383 ∷ [])
-    ∷ example (highIn 0 0 0 128) (0 ∷ 0 ∷ [])
+    -- the share is 32.75: 4192 is 128 times that
+    ∷ example (highIn 1 3 32 32) (131 ∷ 33 ∷ 4192 ∷ [])
+    ∷ example (highIn 127 127 0 128) (16383 ∷ 16383 ∷ 128 * 16383 ∷ [])
+    ∷ example (highIn 0 0 0 128) (0 ∷ 0 ∷ 0 ∷ [])
     ∷ example (lit 0 0 (11 ∷ 12 ∷ [])) (1 ∷ 0 ∷ [])
     ∷ []
 

@@ -3,8 +3,7 @@
 use Rattle.fontline.proofs.Backed.{line-start}
 use Rattle.fontline.specs.Lines.{lineFor}
 use native.Mathlib.Omega.{arith}
-use mathlib.Core.List.{List, [], _∷_}
-use mathlib.Core.Path.{_≡_, refl, sym, _∙_, ap}
+use mathlib.Core.List.{[], _∷_}
 use borrow.Author.Needs.{needs}
 use Rattle.fontline.proofs.accepted_line.Statement.{statement}
 use Rattle.fontline.proofs.accepted_line.Tie as tie

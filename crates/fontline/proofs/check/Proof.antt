@@ -1,16 +1,15 @@
 -- `fontline::check` meets its contract: what the two calls say is what `checked` says, so the line is the line for it.
 -- Assumes nothing.
 use Rattle.fontline.proofs.Checking.{image-read, read-refuses, turning-refuses, both-accept}
-use Rattle.fontline.specs.Lines.{checked, lineFor, lineWith, told}
+use Rattle.fontline.specs.Lines.{lineWith}
 use Rattle.hex.specs.Reading.{answerOf as reading}
 use Rattle.hex.specs.Reading.{imageIn}
 use Rattle.image.specs.Image.{answerOf as turning}
 use Rattle.laws.specs.Said.{Said}
-use native.Mathlib.Omega.{arith}
 use lib.ListN.{length, replicate, length-replicate}
 use mathlib.Core.List.{List}
 use Prim.Native.Nat.{ℕ}
-use mathlib.Core.Path.{_≡_, refl, sym, _∙_, ap}
+use mathlib.Core.Path.{sym, _∙_, ap}
 use borrow.Author.Needs.{needs}
 use Rattle.fontline.proofs.check.Statement.{statement}
 use Rattle.fontline.proofs.check.Tie as tie

@@ -3,7 +3,6 @@
 use borrow.Author.Needs.{needs}
 use Rattle.fontline.proofs.Backed.{fewer, digit-more, digit-last}
 use Rattle.fontline.specs.Lines.{lineWith, decimal, digitsBefore}
-use lib.ListN.{length}
 use native.Mathlib.Omega.{arith}
 use mathlib.Core.List.{List}
 use mathlib.Core.Path.{_≡_, refl, sym, _∙_, ap}

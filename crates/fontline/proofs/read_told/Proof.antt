@@ -1,7 +1,7 @@
 -- `fontline::read_told` meets its contract: in each case the numbers are those of the definition.
 -- Assumes nothing.
 use Rattle.hex.specs.Reading.{said}
-use mathlib.Core.Path.{_≡_, refl, sym, _∙_, ap}
+use mathlib.Core.Path.{sym, _∙_, ap}
 use borrow.Author.Needs.{needs}
 use Rattle.fontline.proofs.read_told.Statement.{statement}
 use Rattle.fontline.proofs.read_told.Tie as tie

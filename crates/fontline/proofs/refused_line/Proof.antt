@@ -1,11 +1,10 @@
 -- `fontline::refused_line` meets its contract: the parts are put before one another from the line's end on, and the room is enough.
 -- Assumes nothing.
 use Rattle.fontline.proofs.Backed.{line-start}
-use Rattle.fontline.specs.Lines.{lineFor, lineWith}
+use Rattle.fontline.specs.Lines.{lineFor}
 use borrow.Author.Tests.{ne-eqb}
 use native.Mathlib.Omega.{arith}
-use mathlib.Core.List.{List, [], _∷_}
-use mathlib.Core.Path.{_≡_, refl, sym, _∙_, ap}
+use mathlib.Core.List.{[], _∷_}
 use borrow.Author.Needs.{needs}
 use Rattle.fontline.proofs.refused_line.Statement.{statement}
 use Rattle.fontline.proofs.refused_line.Tie as tie

@@ -1,21 +1,14 @@
 -- `hex::collect` meets its contract: how far the reading has come (`Passed`) is the invariant, and each answer is the verdict at the line met; the measure is what is left of the text.
 -- Assumes nothing.
 use Rattle.hex.proofs.Passed.{blank-length}
-use Rattle.hex.proofs.Answers.{met-next, met-room, met-sum, met-long-end, met-far-end, met-more, met-done, met-all, met-type, met-past, met-twice, met-passed}
-use Rattle.hex.proofs.Faults.{is-end, end-length, other-type, long-end, far-end, fault-shape, fault-sum, fault-type, fault-end, fault-past, fault-twice, fault-none}
-use Rattle.hex.specs.Steps.{recordAt, nextAt}
-use Rattle.hex.specs.Reading.{verdict}
-use Rattle.hex.specs.Lines.{bodyOf}
-use Rattle.hex.specs.Records.{isShaped, recordOf, lengthOf, addressOf, typeOf, sumOf, isEnd, isGiven, freshIn, faultOf, records, byteIn}
-use Rattle.laws.proofs.Lists.{first-most}
-use borrow.Author.Tests.{eq-eqb, eqb-true, eqb-false}
-use mathlib.Core.Bool.{Bool, true, false}
+use Rattle.hex.proofs.Answers.{met-next, met-sum, met-long-end, met-far-end, met-more, met-done, met-all, met-type, met-past, met-twice, met-passed}
+use Rattle.hex.proofs.Faults.{fault-shape}
 use borrow.Author.Needs.{needs}
-use Rattle.hex.proofs.Passed.{Passed, passed-none, verdict-over, verdict-fault, verdict-more, verdict-done, passed-more, fresh-here, line-shaped, line-unshaped, whole-here, next-fits, is-last, not-last, front-at}
+use Rattle.hex.proofs.Passed.{Passed, passed-none, verdict-over, verdict-fault, line-unshaped}
 use native.Mathlib.Omega.{arith}
-use lib.ListN.{length, getD, take}
+use lib.ListN.{length}
 use mathlib.Core.Path.{_≡_, refl, sym, _∙_, ap}
-use Prim.Native.Nat.{_≤_, _<_, _-_, _+_, _*_}
+use Prim.Native.Nat.{_-_}
 use Rattle.hex.proofs.collect.Statement.{statement}
 use Rattle.hex.proofs.collect.Tie as tie
 

@@ -5,7 +5,6 @@ use Rattle.hex.specs.Steps.{byteOf}
 use Rattle.laws.proofs.Lists.{Filled, filled-none, filled-more, filled-all}
 use native.Mathlib.Omega.{arith}
 use lib.ListN.{getD}
-use mathlib.Core.Path.{_∙_}
 use Prim.Native.Nat.{_≤_, _-_}
 use Rattle.hex.proofs.copy_out.Statement.{statement}
 use Rattle.hex.proofs.copy_out.Tie as tie

@@ -2,14 +2,12 @@
 -- Assumes nothing.
 use Rattle.hex.proofs.Place.{sizeAt, not-shaped, no-sum, no-end, is-shaped}
 use Rattle.hex.proofs.Steps.{table-digit}
-use Rattle.hex.specs.declared.Line.the-variants.{Shaped, Unshaped}
-use Rattle.hex.specs.Steps.{sumFrom, pastEnd}
 use Rattle.hex.specs.Digits.{digit}
 use Rattle.laws.proofs.Lists.{length-tabulate}
 use native.Mathlib.Omega.{arith}
-use lib.ListN.{length, getD, take}
-use mathlib.Core.Path.{_≡_, refl, sym, _∙_, ap}
-use Prim.Native.Nat.{_+_, _*_, _<_}
+use lib.ListN.{length, getD}
+use mathlib.Core.Path.{_≡_, sym, _∙_, ap}
+use Prim.Native.Nat.{_+_, _*_}
 use borrow.Author.Needs.{needs}
 use Rattle.hex.proofs.parse.Statement.{statement}
 use Rattle.hex.proofs.parse.Tie as tie

@@ -4,9 +4,8 @@ use Prim.Native.Nat.{_+_}
 use Rattle.hex.proofs.Steps.{past-over, past-here}
 use native.Mathlib.Omega.{arith}
 use borrow.Author.Tests.{eq-eqb, ne-eqb}
-use lib.Dec.{eqb}
-use lib.ListN.{length, getD, List·getD-eq-default}
-use mathlib.Core.Path.{_≡_, sym, _∙_, ap}
+use lib.ListN.{getD, List·getD-eq-default}
+use mathlib.Core.Path.{sym, _∙_}
 use borrow.Author.Needs.{needs}
 use Rattle.hex.proofs.past_end.Statement.{statement}
 use Rattle.hex.proofs.past_end.Tie as tie

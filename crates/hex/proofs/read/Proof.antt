@@ -2,13 +2,11 @@
 -- Assumes nothing.
 use Rattle.hex.proofs.Outcomes.{answers, leaves, keeps, not-done}
 use Rattle.hex.specs.Steps.{blank}
-use Rattle.hex.specs.Reading.{answerOf, leftOf, said, verdict}
+use Rattle.hex.specs.Reading.{answerOf, leftOf, said}
 use native.Mathlib.Omega.{arith}
-use borrow.Author.Tests.{lt-ltb, le-ltb, eq-eqb, ne-eqb}
-use lib.Dec.{eqb}
-use lib.ListN.{length, getD, drop, replicate}
-use mathlib.Core.List.{_++_}
-use mathlib.Core.Path.{_≡_, refl, sym, _∙_, ap}
+use borrow.Author.Tests.{lt-ltb, le-ltb}
+use lib.ListN.{length}
+use mathlib.Core.Path.{refl, _∙_, ap}
 use borrow.Author.Needs.{needs}
 use Rattle.hex.proofs.read.Statement.{statement}
 use Rattle.hex.proofs.read.Tie as tie

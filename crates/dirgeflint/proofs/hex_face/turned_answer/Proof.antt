@@ -1,6 +1,6 @@
 -- In each case the struct tells what is said of the case.
 -- Assumes nothing.
-use mathlib.Core.Path.{_≡_, sym, _∙_, ap}
+use mathlib.Core.Path.{sym, _∙_, ap}
 use Rattle.image.specs.Image.{said}
 use borrow.Author.Needs.{needs}
 use Rattle.dirgeflint.proofs.hex_face.turned_answer.Statement.{statement}
