@@ -70,8 +70,8 @@ void dirgeflint_dac_reset(dirgeflint_dac *dac);
 /* Writes the low register: its 7 low bits are held as the fine half, until a high write takes them into a pair. */
 void dirgeflint_dac_write_low(dirgeflint_dac *dac, uint8_t byte);
 
-/* Writes the high register: its 7 low bits, with the fine half held now, complete a pair. The pair completed last is put in force with the
- * first clock played of each period. */
+/* Writes the high register: its 7 low bits, with the fine half held now, complete a pair. The pair completed last is put in force as the
+ * position-0 clock of each period is played. */
 void dirgeflint_dac_write_high(dirgeflint_dac *dac, uint8_t byte);
 
 /*
