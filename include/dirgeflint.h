@@ -1,8 +1,11 @@
 /*
- * Dirgeflint: the on-screen display and pulse outputs of the PCA84C646.
+ * Dirgeflint: what the PCA84C646 shows on the screen and puts out as pulses.
  *
  * Every function takes every input and always returns. None allocates, none keeps state of its own, so all may be
  * called from any thread as long as no two calls share memory that one of them writes.
+ *
+ * Pointers are the host's part: each must be valid and aligned for its type, and point to memory that does not overlap
+ * anything else lent to the same call; where the length is 0 it may be anything but null. A bool must hold 0 or 1.
  *
  * Link with libdirgeflint.a (README.md says how it is made).
  */
@@ -36,17 +39,18 @@ typedef struct dirgeflint_answer {
 /*
  * The eight small outputs: the level of a channel at one clock of its period, after byte was written to the channel.
  *
- * Channels 0 to 3 keep the low 7 bits of the byte and have a period of 128 clocks; channels 4 to 7 keep 6 bits and
- * have 64. The output is high for as many clocks from the period's start as the number kept says.
+ * The period is 128 clocks for channels 0 to 3, which keep the byte's low 7 bits, and 64 clocks for channels 4 to 7,
+ * which keep its low 6. The output is high for as many clocks from the period's start as the number kept says.
  *
  * value   1 for high, 0 for low.
- * Refuses 15: channel above 7, or t not inside the channel's period.
+ * Refuses 15: a channel over 7, or a t that is not below the channel's period.
  */
 dirgeflint_answer dirgeflint_pulse_level(uint32_t channel, uint8_t byte, uint32_t t);
 
 /*
- * The 14-bit DAC: a period is 128 sub-periods of 128 clocks. The host keeps one running record and lends it to each call.
- * Any record is taken: a call uses each half modulo 128 and the position modulo 16,384, and leaves them so.
+ * The 14-bit DAC: a period is 128 sub-periods of 128 clocks. The host has one running record, and lends it to each call.
+ * Any record is taken: its halves count modulo 128, its position counts modulo 16,384. Every call but a refused play and a play of 0 clocks
+ * leaves kept values: halves below 128, a position below 16,384.
  */
 typedef struct dirgeflint_pair {
     uint8_t coarse; /* high half */
@@ -66,13 +70,13 @@ void dirgeflint_dac_reset(dirgeflint_dac *dac);
 /* Writes the low register: its 7 low bits are held as the fine half, until a high write takes them into a pair. */
 void dirgeflint_dac_write_low(dirgeflint_dac *dac, uint8_t byte);
 
-/* Writes the high register: its 7 low bits, with the fine half held now, complete a pair. The latest completed pair comes into force when
- * the first clock of a period is played. */
+/* Writes the high register: its 7 low bits, with the fine half held now, complete a pair. The pair completed last is put in force as the
+ * position-0 clock of each period is played. */
 void dirgeflint_dac_write_high(dirgeflint_dac *dac, uint8_t byte);
 
 /*
- * Plays so many clocks: writes a byte for each, 1 for high and 0 for low, to the first bytes of levels, and moves the position on. Later
- * bytes stay. A play of 0 clocks changes nothing.
+ * Plays so many clocks: the first bytes of levels become their levels, a byte each, 1 if high and 0 if low, and the position moves on. What
+ * levels holds past them stays. With 0 clocks nothing changes.
  *
  * Refuses 14: clocks above 16,384, or above levels_length. The record is then left as it was, made up or not.
  */
@@ -101,7 +105,7 @@ dirgeflint_port dirgeflint_port_write_attribute(dirgeflint_port port, uint8_t by
  * from 63 to 0. */
 dirgeflint_port dirgeflint_port_write_character(dirgeflint_port port, uint8_t byte);
 
-/* What the painter is told beside words and font. Colours are 4 for red plus 2 for green plus 1 for blue. */
+/* What the painter is told beside words and font. A colour is a sum: red counts 4, green 2, blue 1. */
 typedef struct dirgeflint_settings {
     bool on;            /* off: every dot is video */
     uint32_t mode;      /* 0 to 3 */
@@ -109,21 +113,21 @@ typedef struct dirgeflint_settings {
     uint32_t h;         /* rows start at dot 4h; 0 to 63 */
     uint32_t v;         /* the first row starts at line 4v; 0 to 63 */
     uint32_t ratio;     /* blink: lit for the first 3/4, 1/2 or 1/4 of each D frames, for 0, 1, 2 */
-    uint32_t frequency; /* blink: D is 16, 32, 64 or 128 frames, for 0 to 3 */
+    uint32_t frequency; /* blink: D frames; 0, 1, 2, 3 for 16, 32, 64, 128 */
 } dirgeflint_settings;
 
 /*
- * Paints the first width dots of a scan line to the first bytes of dots: 0 for video, else 8 plus the colour. Later bytes stay.
+ * Paints the first width dots of a scan line to the first bytes of dots: video is 0, a colour is 8 and its number. Later bytes stay.
  *
  * words   the 64 words of the display RAM, each at most 1023
  * font    the 62 cells of 18 rows, top row first, each row at most 4095 with the leftmost dot in bit 11: 1,116 rows
  * frame   any number; blinking goes by its remainder
  *
- * Refuses 1: mode, colour, h, v, ratio or frequency outside its range (ratio 3 is in range, and reserved)
+ * Refuses 1: a mode, colour, h, v, frequency or ratio out of range (ratio 3 is in range, and reserved)
  *         2: ratio 3
- *         3: not 64 words, or a word above 1023
- *         4: not 1,116 rows, or a row above 4095
- *         5: line above 1023 or width above 1024
+ *         3: words_length not 64, or a word over 1023
+ *         4: font_length not 1,116, or a row over 4095
+ *         5: line over 1023, or width over 1024
  *         6: dots_length below width
  */
 dirgeflint_answer dirgeflint_paint(const uint16_t *words, size_t words_length, const uint16_t *font, size_t font_length,
@@ -131,9 +135,9 @@ dirgeflint_answer dirgeflint_paint(const uint16_t *words, size_t words_length, c
                                    size_t dots_length);
 
 /*
- * The character image and its text. A font is 1,116 rows as for dirgeflint_paint. An image is 8,192 bytes: row l of cell c has its low 8 bits at
- * 32c + l and its high 4 at 4096 + 32c + l, in a byte whose upper four bits are set; every other byte is FF. The text is Intel's hexadecimal
- * object format, record types 00 and 01 only.
+ * The character image and its text. A font is 1,116 rows as for dirgeflint_paint. An image has 8,192 bytes. Two of them hold row l of cell c:
+ * 32c + l is the address of its low 8 bits, 4096 + 32c + l that of its high 4, which stand below four set bits. Bytes that hold no row are FF.
+ * The text is Intel's hexadecimal object format, record types 00 and 01 only.
  */
 
 /*
@@ -148,15 +152,16 @@ dirgeflint_answer dirgeflint_paint(const uint16_t *words, size_t words_length, c
  *        10: address plus length above 8,192
  *        11: a byte that an earlier record gives already
  *        12: no end record (place: text_length), or bytes after its line (place: the first of them)
- * For 7 to 11 the first faulty record is refused, and place is where its line starts.
+ * 7 to 11 go by the first record with a fault, whatever faults later ones have; place is the start of its line. Lines after the end record's
+ * are looked at for 12 only.
  */
 dirgeflint_answer dirgeflint_hex_read(const uint8_t *text, size_t text_length, uint8_t *image, size_t image_length);
 
 /*
- * Writes a font: the text of its image goes to the first 22,540 bytes of text, 512 records of 16 bytes by rising address and the end
+ * Writes a font: the text of its image goes to the first 22,540 bytes of text, 512 records that hold 16 bytes each, from address 0 up, and the end
  * record, in upper case, each line ended by LF. Later bytes stay.
  *
- * Refuses 4: not 1,116 rows, or a row above 4095
+ * Refuses 4: font_length not 1,116, or a row over 4095
  *         6: text_length below 22,540
  */
 dirgeflint_answer dirgeflint_hex_write(const uint16_t *font, size_t font_length, uint8_t *text, size_t text_length);

@@ -120,8 +120,8 @@ highs (b ∷ bs) = pick (eqb b 1) 1 0 + highs bs
 abbrev pub runOf : ℕ → ℕ → List ℕ → List ℕ
 runOf r j w = take (128 * r) (drop (128 * (r * j)) w)
 
--- What is asked of a period's levels w, t being T: t of them are high; and in every run of r = 1, 2, 4, .. 64 sub-periods 128 times the high
--- clocks differ from r times t by less than 128.
+-- What is asked of a period's levels w, t being T: t of them are high; and in every run of r = 1, 2, 4, .. 64 sub-periods 128 times the number
+-- of high clocks is less than 128 away from r times t.
 pub record Shares (t : ℕ) (w : List ℕ) : Type 0 where
   pub long : length w ≡ period
   pub exact : highs w ≡ t

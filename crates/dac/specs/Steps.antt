@@ -31,14 +31,14 @@ lowWritten d byte =
     let k = kept d in
     dacOf (k .position) (pair (k .held .coarse) (keptHalf byte)) (k .completed) (k .in_force)
 
--- A high half is held, and completes a pair with the low half held then.
+-- A high half is held, and makes a completed pair with the low half held then.
 abbrev pub highWritten : Dac → ℕ → Dac
 highWritten d byte =
     let k = kept d in
     let made = pair (keptHalf byte) (k .held .fine) in
     dacOf (k .position) made made (k .in_force)
 
--- The pair by which the next clock of a kept record is played: at a period's first clock the latest completed pair comes into force.
+-- The pair by which the next clock of a kept record is played: at a period's first clock the pair completed last is put in force.
 unfoldable pub playing : Dac → Pair
 playing k = pick (eqb (k .position) 0) (k .completed) (k .in_force)
 

@@ -70,7 +70,7 @@ pub fn write_low(dac: Dac, byte: u8) -> Dac
     after
 }
 
-// Holds a high half, which completes a pair with the low half held then.
+// Holds a high half, which makes a completed pair with the low half held then.
 pub fn write_high(dac: Dac, byte: u8) -> Dac
     ensures { λ r. ⌜ r ≡ highWritten dac byte ⌝ }
 {

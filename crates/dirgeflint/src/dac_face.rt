@@ -1,4 +1,4 @@
-// The 14-bit DAC. The host keeps one running record and lends it to every call, which updates it there: each function copies the record, calls
+// The 14-bit DAC. The host has the one running record and lends it to every call, which updates it there: each function copies the record, calls
 // the step by value, and stores what comes back.
 ghost use mathlib.Core.Path.{_≡_};
 ghost use lib.ListN.{length};

@@ -5,7 +5,7 @@ ghost use Rattle.pulse.specs.Pulse.{answerOf, said};
 use crate::Answer;
 use pulse::Level;
 
-// The level of a channel at clock t of its period, after byte was written to it: value 1 for high and 0 for low.
+// The level of a channel at clock t of its period, after byte was written to it: value 1 if high, 0 if low.
 #[no_mangle]
 pub extern "C" fn dirgeflint_pulse_level(channel: u32, byte: u8, t: u32) -> Answer
     ensures { λ r. ⌜ told r ≡ answerOf channel byte t ⌝ }

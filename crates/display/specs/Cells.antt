@@ -74,6 +74,6 @@ cellsFrom left [] p = []
 cellsFrom left (w ∷ ws) p =
     cellOf (placedWord w p) (p .background) ++ pick (goesOn (kindOf w)) (cellsFrom left ws (afterWord left (kindOf w) p)) []
 
--- the cells of a screen: the first row has size 1, and before the first space the background is the starting one
+-- the cells of a screen: the first row has size 1, and cells that no space precedes have the starting background
 abbrev pub cells : Dots → Lines → ℕ → List ℕ → List Cell
 cells left top start words = cellsFrom left words (rowPen left top 1 start)

@@ -1,5 +1,5 @@
 -- What a screen shows at a dot: document 01, 'From words to dots', the table of modes and blinking.
--- A painted dot is a byte: 0 for video, else 8 and the colour.
+-- Each dot is painted as a byte: video is 0, a colour is 8 and its number.
 -- Assumes nothing.
 use Prim.Native.Nat.{ℕ, _+_, _-_, _*_, _/_, _%_, _^_}
 use mathlib.Core.List.{List}

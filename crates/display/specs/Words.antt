@@ -1,5 +1,5 @@
 -- The display words: document 01, 'The display words'.
--- A word has 10 bits. Bits 9 to 4 are the code, bits 3 to 0 are T3 to T0; the code says what the T bits mean.
+-- A word has 10 bits: its code in bits 9 to 4, and T3 to T0 in bits 3 to 0; the code says what the T bits mean.
 -- Assumes nothing.
 use Prim.Native.Nat.{ℕ, _+_, _*_, _/_, _%_}
 use mathlib.Core.Bool.{Bool}

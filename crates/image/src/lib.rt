@@ -1,4 +1,4 @@
-// The 8,192-byte image of a font, turned back into the font.
+// The image of a font, 8,192 bytes, turned back into the font.
 ghost use mathlib.Core.Path.{_≡_};
 ghost use Prim.Native.Nat.{_<_};
 ghost use lib.ListN.{length};

@@ -1,5 +1,5 @@
 // The write port of the display's RAM: an address, an attribute and a character register, and 64 words.
-// A port goes in by value and comes back. Every call leaves kept bits only, in each register and each word, whatever was handed over.
+// A port is given and comes back by value. Every call leaves kept bits only, in each register and each word, whatever was handed over.
 ghost use mathlib.Core.Path.{_≡_};
 ghost use mathlib.Core.List.{map};
 ghost use Rattle.port.specs.Port.{keptWord, keptOf, freshPort, addressWritten, attributeWritten, characterWritten};

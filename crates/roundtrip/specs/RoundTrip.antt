@@ -47,7 +47,7 @@ FontComesBack =
     (font text image rows : List ℕ) → isFont font ≡ true → textBytes ≤ length text → imageBytes ≤ length image → length rows ≡ fontRows
     → ComesBack font text image rows
 
--- a text of the writer's form: the text of some image
+-- a text of the writer's form: the text of some image of 8,192 bytes
 pub record HasWritersForm (text : List ℕ) : Type 0 where
   pub image : List ℕ
   pub whole : IsImage image
@@ -63,11 +63,11 @@ pub record IsTheTextOf (image text : List ℕ) : Type 0 where
   pub has : imageIn text ≡ image
   pub only : (other : List ℕ) → HasWritersForm other → imageIn other ≡ image → other ≡ text
 
--- Writing a font gives the one text of the writer's form with the font's image.
+-- What writing a font gives has the font's image, and is of the writer's form; no other text is both.
 abbrev pub WritingGivesTheText : Type 0
 WritingGivesTheText = (font room : List ℕ) → isFont font ≡ true → textBytes ≤ length room → IsTheTextOf (imageOf font) (writtenIn font room)
 
--- So where a text's image is a font's, writing that font gives the one text of the writer's form with the text's image. The text need not
+-- So if the image of a text belongs to a font, then writing the font gives that image's one text of the writer's form. The text need not
 -- be accepted: this holds of what its records spell.
 abbrev pub RewritingGivesTheText : Type 0
 RewritingGivesTheText =

@@ -41,7 +41,7 @@ const END: u8 = 1;
 
 pub enum Written {
     Done,
-    // Not 1,116 rows, or a row above 4095.
+    // Not 1,116 rows, or one of them over 4095.
     NotAFont,
     // Less room than the text needs.
     NoRoom,
