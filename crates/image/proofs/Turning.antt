@@ -62,7 +62,7 @@ high-whole a h g = let e : a % 4096 ≡ a - 4096 = omega arith in rw e (omega ar
 row-below : (c l : ℕ) → c < 62 → l < 18 → 18 * c + l < 1116
 row-below c l h g = omega arith
 
-row-low : (c l : ℕ) → l < 18 → lowAt (18 * c + l) ≡ 32 * c + l
+pub row-low : (c l : ℕ) → l < 18 → lowAt (18 * c + l) ≡ 32 * c + l
 row-low c l h = omega arith
 
 -- the two addresses of row k

@@ -1,14 +1,21 @@
 // The image of a font, 8,192 bytes, turned back into the font.
 ghost use mathlib.Core.Path.{_≡_};
-ghost use Prim.Native.Nat.{_<_};
-ghost use lib.ListN.{length};
-ghost use Rattle.image.specs.Image.{leastAt, firstLack, fontOf, rowIn, answerOf, leftOf, said};
+ghost use Prim.Native.Nat.{ℕ, _+_, _*_, _<_, _≤_};
+ghost use mathlib.Core.Bool.{false};
+ghost use lib.ListN.{length, getD};
+ghost use Rattle.image.specs.Image.{leastAt, lacksAt, firstLack, fontOf, rowIn, answerOf, leftOf, said};
 
 const IMAGE_BYTES: usize = 8192;
 
 const HALF_BYTES: usize = 4096;
 
+const STRIDE: usize = 32;
+
 const FONT_ROWS: usize = 1116;
+
+const FONT_CELLS: usize = 62;
+
+const CELL_ROWS: usize = 18;
 
 pub enum Turned {
     Done,
@@ -39,7 +46,7 @@ fn first_lack(image: &[u8]) -> usize
     requires { ⌜ length (now image) ≡ 8192 ⌝ }
     ensures { λ r. ⌜ r ≡ firstLack (now (image .entry)) ⌝ }
 {
-    let mut i = 0usize;
+    let mut i = whole_strides(image);
     while i < IMAGE_BYTES {
         if image[i] < least(i) {
             return i;
@@ -49,14 +56,48 @@ fn first_lack(image: &[u8]) -> usize
     i
 }
 
+// Where the strides at the image's start that lack nothing end. In a stride the least byte changes once, after a cell's rows.
+fn whole_strides(image: &[u8]) -> usize
+    requires { ⌜ length (now image) ≡ 8192 ⌝ }
+    ensures { λ r. ⌜ (r ≤ 8192) × ((k : ℕ) → k < r → lacksAt (now (image .entry)) k ≡ false) ⌝ }
+{
+    let mut at = 0usize;
+    while at < IMAGE_BYTES {
+        if falls_below(image, at, CELL_ROWS, least(at)) {
+            return at;
+        }
+        if falls_below(image, at + CELL_ROWS, STRIDE - CELL_ROWS, 255) {
+            return at;
+        }
+        at += STRIDE;
+    }
+    at
+}
+
+// Whether a byte among n from a place on is below the bound. Each is looked at, so that nothing but n ends the loop.
+fn falls_below(image: &[u8], from: usize, n: usize, bound: u8) -> bool
+    requires { ⌜ from + n ≤ length (now image) ⌝ }
+    ensures { λ r. ⌜ (r ≡ false → (k : ℕ) → k < n → bound ≤ getD (now (image .entry)) (from + k) 0) ⌝ }
+{
+    let mut below = false;
+    let mut i = 0usize;
+    while i < n {
+        if image[from + i] < bound {
+            below = true;
+        }
+        i += 1;
+    }
+    below
+}
+
 // The least byte with every bit set that must be set there.
 fn least(address: usize) -> u8
     ensures { λ r. ⌜ r ≡ leastAt address ⌝ }
 {
-    if 62 <= address % HALF_BYTES / 32 {
+    if FONT_CELLS <= address % HALF_BYTES / STRIDE {
         return 255;
     }
-    if 18 <= address % 32 {
+    if CELL_ROWS <= address % STRIDE {
         return 255;
     }
     if address < HALF_BYTES {
@@ -69,17 +110,21 @@ fn fill(image: &[u8], font: &mut [u16])
     requires { ⌜ (length (now image) ≡ 8192) × (length (now font) ≡ 1116) ⌝ }
     ensures { λ _. ⌜ now (font .exit) ≡ fontOf (now (image .entry)) ⌝ }
 {
-    let mut i = 0usize;
-    while i < FONT_ROWS {
-        font[i] = row(image, i);
-        i += 1;
+    let mut cell = 0usize;
+    while cell < FONT_CELLS {
+        let mut line = 0usize;
+        while line < CELL_ROWS {
+            font[CELL_ROWS * cell + line] = row(image, cell, line);
+            line += 1;
+        }
+        cell += 1;
     }
 }
 
-fn row(image: &[u8], i: usize) -> u16
-    requires { ⌜ (length (now image) ≡ 8192) × (i < 1116) ⌝ }
-    ensures { λ r. ⌜ r ≡ rowIn (now (image .entry)) i ⌝ }
+fn row(image: &[u8], cell: usize, line: usize) -> u16
+    requires { ⌜ (length (now image) ≡ 8192) × (cell < 62) × (line < 18) ⌝ }
+    ensures { λ r. ⌜ r ≡ rowIn (now (image .entry)) (18 * cell + line) ⌝ }
 {
-    let low = 32 * (i / 18) + i % 18;
+    let low = STRIDE * cell + line;
     (image[low] as u16) + 256 * ((image[HALF_BYTES + low] % 16) as u16)
 }
