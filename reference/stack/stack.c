@@ -2,7 +2,7 @@
  * stack: how much stack each call of the library takes at most, in bytes, over inputs chosen to go deep.
  *
  * The memory below the caller's frame is marked, the call is made from that frame, and the lowest mark that is gone
- * tells how deep it went. Included after the WITH_ definitions.
+ * tells how deep it went.
  */
 #include "dirgeflint.h"
 #include <stdio.h>
@@ -50,15 +50,12 @@ static void none(void)
 {
 }
 
-#ifdef WITH_PULSE
 static volatile uint32_t channel, t;
 static void pulse_level(void)
 {
     dirgeflint_pulse_level(channel, 0xff, t);
 }
-#endif
 
-#ifdef WITH_DAC
 static dirgeflint_dac dac;
 static uint8_t levels[16384];
 static void dac_reset(void)
@@ -77,9 +74,7 @@ static void dac_play(void)
 {
     dirgeflint_dac_play(&dac, 16384, levels, sizeof levels);
 }
-#endif
 
-#ifdef WITH_PORT
 static dirgeflint_port port;
 static void port_fresh(void)
 {
@@ -97,13 +92,9 @@ static void port_write_character(void)
 {
     port = dirgeflint_port_write_character(port, 0xff);
 }
-#endif
 
-#if defined(WITH_PAINT) || defined(WITH_HEX)
 static uint16_t font[1116];
-#endif
 
-#ifdef WITH_PAINT
 static uint16_t words[64];
 static uint8_t dots[1024];
 static dirgeflint_settings settings = { 1, 3, 1, 0, 0, 0, 0 };
@@ -126,9 +117,7 @@ static void screens(void)
                 measure(paint);
         }
 }
-#endif
 
-#ifdef WITH_HEX
 static uint8_t text[65536], image[8192];
 static size_t text_length;
 static void hex_read(void)
@@ -143,20 +132,16 @@ static void image_to_font(void)
 {
     dirgeflint_image_to_font(image, sizeof image, font, 1116);
 }
-#endif
 
 int main(void)
 {
     measure(none);
     nothing = deepest;
     deepest = 0;
-#ifdef WITH_PULSE
     for (channel = 0; channel < 9; channel++)
         for (t = 0; t < 130; t++)
             measure(pulse_level);
     report("dirgeflint_pulse_level");
-#endif
-#ifdef WITH_DAC
     measure(dac_write_low);
     report("dirgeflint_dac_write_low");
     measure(dac_write_high);
@@ -166,8 +151,6 @@ int main(void)
     report("dirgeflint_dac_play");
     measure(dac_reset);
     report("dirgeflint_dac_reset");
-#endif
-#ifdef WITH_PORT
     measure(port_fresh);
     report("dirgeflint_port_fresh");
     measure(port_write_address);
@@ -176,12 +159,8 @@ int main(void)
     report("dirgeflint_port_write_attribute");
     measure(port_write_character);
     report("dirgeflint_port_write_character");
-#endif
-#ifdef WITH_PAINT
     screens();
     report("dirgeflint_paint");
-#endif
-#ifdef WITH_HEX
     measure(hex_write);
     report("dirgeflint_hex_write");
     text_length = 22540;
@@ -191,6 +170,5 @@ int main(void)
     report("dirgeflint_hex_read");
     measure(image_to_font);
     report("dirgeflint_image_to_font");
-#endif
     return 0;
 }
