@@ -196,6 +196,69 @@ static const shape shapes[] = {
     { NULL, NULL, NULL, 0 },
 };
 
+/* The side that is checked before it is timed, and the number of its latest refusal. */
+static const face *checked;
+static uint32_t refused;
+
+static dirgeflint_answer noted(dirgeflint_answer answer)
+{
+    if (answer.number != 0)
+        refused = answer.number;
+    return answer;
+}
+
+static dirgeflint_answer checked_pulse_level(uint32_t channel, uint8_t byte, uint32_t t)
+{
+    return noted(checked->pulse_level(channel, byte, t));
+}
+
+static dirgeflint_answer checked_dac_play(dirgeflint_dac *record, uint32_t clocks, uint8_t *levels, size_t length)
+{
+    return noted(checked->dac_play(record, clocks, levels, length));
+}
+
+static dirgeflint_answer checked_paint(const uint16_t *words, size_t words_length, const uint16_t *font,
+                                       size_t font_length, dirgeflint_settings settings, uint32_t at, uint32_t line,
+                                       uint32_t width, uint8_t *dots, size_t length)
+{
+    return noted(checked->paint(words, words_length, font, font_length, settings, at, line, width, dots, length));
+}
+
+static dirgeflint_answer checked_hex_read(const uint8_t *from, size_t from_length, uint8_t *to, size_t to_length)
+{
+    return noted(checked->hex_read(from, from_length, to, to_length));
+}
+
+static dirgeflint_answer checked_hex_write(const uint16_t *font, size_t font_length, uint8_t *to, size_t to_length)
+{
+    return noted(checked->hex_write(font, font_length, to, to_length));
+}
+
+static dirgeflint_answer checked_image_to_font(const uint8_t *from, size_t from_length, uint16_t *to, size_t to_length)
+{
+    return noted(checked->image_to_font(from, from_length, to, to_length));
+}
+
+/* Runs the shape once, not timed, through calls that note a refusal; a refused call would be timed for no work. */
+static void check(const shape *s, const face *f)
+{
+    face through = *f;
+    through.pulse_level = checked_pulse_level;
+    through.dac_play = checked_dac_play;
+    through.paint = checked_paint;
+    through.hex_read = checked_hex_read;
+    through.hex_write = checked_hex_write;
+    through.image_to_font = checked_image_to_font;
+    checked = f;
+    refused = 0;
+    s->work(&through, s->size);
+    if (refused != 0) {
+        fprintf(stderr, "bench: %s, %s: the %s refuses with %u\n", s->part, s->name,
+                f == library ? "library" : "baseline", (unsigned)refused);
+        exit(1);
+    }
+}
+
 /* Nanoseconds for one run of the shape. */
 static double timed(const shape *s, const face *f, long repeats)
 {
@@ -226,6 +289,8 @@ static void race(const shape *s)
     double times[2][ROUNDS];
     const face *side[2] = { library, baseline };
     long repeats[2];
+    for (int i = 0; i < 2; i++)
+        check(s, side[i]);
     for (int i = 0; i < 2; i++)
         repeats[i] = repeats_for(s, side[i]);
     for (int round = 0; round < ROUNDS; round++)

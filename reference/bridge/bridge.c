@@ -14,16 +14,25 @@
 #include <stdlib.h>
 #include <string.h>
 
+/* With what status the bridge ends, if not with 0 at the end of its input. */
+enum {
+    CUT_SHORT = 2,   /* the input ended inside a request */
+    UNHEARD = 3,     /* a reply could not be written */
+    NO_MEMORY = 4,   /* there is no memory to lend */
+    TOO_LONG = 5,    /* a slice is longer than LIMIT bytes */
+    UNKNOWN_CALL = 6 /* no call has this letter */
+};
+
 static void take(void *to, size_t count)
 {
     if (count != 0 && fread(to, 1, count, stdin) != count)
-        exit(2);
+        exit(CUT_SHORT);
 }
 
 static void give(const void *from, size_t count)
 {
     if (count != 0 && fwrite(from, 1, count, stdout) != count)
-        exit(3);
+        exit(UNHEARD);
 }
 
 static void give_health(bool well)
@@ -73,10 +82,10 @@ static void make(area *a, size_t size)
         a->whole = malloc(MARGIN + LIMIT + MARGIN);
         a->before = malloc(LIMIT);
         if (a->whole == NULL || a->before == NULL)
-            exit(4);
+            exit(NO_MEMORY);
     }
     if (size > LIMIT)
-        exit(5);
+        exit(TOO_LONG);
     a->size = size;
     memset(a->whole, MARK, MARGIN);
     memset(a->whole + MARGIN + size, MARK, MARGIN);
@@ -271,7 +280,7 @@ int main(void)
         case 'R': hex_read(); break;
         case 'W': hex_write(); break;
         case 'I': image_to_font(); break;
-        default: exit(6);
+        default: exit(UNKNOWN_CALL);
         }
     }
     return 0;

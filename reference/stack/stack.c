@@ -6,22 +6,31 @@
  */
 #include "dirgeflint.h"
 #include <stdio.h>
-#include <string.h>
+#include <stdlib.h>
 
-enum { DEPTH = 1 << 18, MARK = 0xA5 };
+enum { DEPTH = 1 << 18 };
 
-__attribute__((noinline)) static void mark(void)
+/* Two marks, because a call may happen to leave a byte that equals one of them. */
+static const unsigned char marks[2] = { 0xA5, 0x5A };
+
+__attribute__((noinline)) static void mark(unsigned char byte)
 {
     volatile unsigned char room[DEPTH];
     for (size_t i = 0; i < DEPTH; i++)
-        room[i] = MARK;
+        room[i] = byte;
 }
 
-__attribute__((noinline)) static size_t depth(void)
+/*
+ * Reads an array that it never writes, on purpose: called from the same frame as mark and as large, it has its array
+ * where mark had its own, so what it finds there is what mark and then the call left. C promises nothing of the kind;
+ * volatile makes the compiler do the writing and the reading as they stand, and if the two arrays ever lay elsewhere no
+ * mark would be found, which measure takes for a failure.
+ */
+__attribute__((noinline)) static size_t depth(unsigned char byte)
 {
     volatile unsigned char room[DEPTH];
     size_t i = 0;
-    while (i < DEPTH && room[i] == MARK)
+    while (i < DEPTH && room[i] == byte)
         i++;
     return DEPTH - i;
 }
@@ -31,11 +40,17 @@ static size_t deepest;
 
 __attribute__((noinline)) static void measure(void (*call)(void))
 {
-    mark();
-    call();
-    size_t deep = depth();
-    if (deep > deepest)
-        deepest = deep;
+    for (size_t i = 0; i < 2; i++) {
+        mark(marks[i]);
+        call();
+        size_t deep = depth(marks[i]);
+        if (deep == DEPTH) {
+            fputs("stack: a call went deeper than the marks, or the marks are not where they should be\n", stderr);
+            exit(1);
+        }
+        if (deep > deepest)
+            deepest = deep;
+    }
 }
 
 static size_t nothing;
