@@ -35,7 +35,7 @@ __attribute__((noinline)) static size_t depth(unsigned char byte)
     return DEPTH - i;
 }
 
-/* Both see the same memory only if nothing comes between them, so the call is made through a pointer, with no arguments. */
+/* Both see the same memory only if nothing comes between them, so a call goes through a pointer, with no arguments. */
 static size_t deepest;
 
 __attribute__((noinline)) static void measure(void (*call)(void))
