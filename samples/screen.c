@@ -2,10 +2,17 @@
 #include "dirgeflint.h"
 #include <stdio.h>
 
-enum { ROWS = 1116, TEXT = 22540, IMAGE = 8192, WIDTH = 84 };
+/* One byte more than a text may have, so that a longer one is refused and not cut. */
+enum { ROWS = 1116, TEXT = 65536, IMAGE = 8192, WIDTH = 84 };
 
-static uint8_t text[TEXT + 1], image[IMAGE], dots[WIDTH];
+static uint8_t text[TEXT], image[IMAGE], dots[WIDTH];
 static uint16_t font[ROWS];
+
+static int refused(const char *what, dirgeflint_answer a)
+{
+    fprintf(stderr, "screen: %s refused with %u at %u\n", what, (unsigned)a.number, (unsigned)a.place);
+    return 1;
+}
 
 int main(int count, char **names)
 {
@@ -17,12 +24,11 @@ int main(int count, char **names)
     size_t length = fread(text, 1, sizeof text, file);
     fclose(file);
     dirgeflint_answer a = dirgeflint_hex_read(text, length, image, sizeof image);
-    if (a.number == 0)
-        a = dirgeflint_image_to_font(image, sizeof image, font, ROWS);
-    if (a.number != 0) {
-        fprintf(stderr, "screen: refused %u at %u\n", (unsigned)a.number, (unsigned)a.place);
-        return 1;
-    }
+    if (a.number != 0)
+        return refused("the text is", a);
+    a = dirgeflint_image_to_font(image, sizeof image, font, ROWS);
+    if (a.number != 0)
+        return refused("the image is", a);
 
     /* "CH 12" in white through the write port, then an end. Cells 0 to 9 are the digits, 11 to 36 the letters. */
     static const uint8_t codes[] = { 13, 18, 61, 1, 2 };
@@ -31,10 +37,12 @@ int main(int count, char **names)
         port = dirgeflint_port_write_character(port, codes[i]);
     port = dirgeflint_port_write_character(dirgeflint_port_write_attribute(port, 1), 63);
 
-    dirgeflint_settings settings = { true, 2, 1, 3, 0, 0, 0 };
+    dirgeflint_settings settings = { .on = true, .mode = 2, .colour = 1, .h = 3, .v = 0, .ratio = 0, .frequency = 0 };
     for (uint32_t line = 0; line < 18; line++) {
         a = dirgeflint_paint(port.words, 64, font, ROWS, settings, 0, line, WIDTH, dots, sizeof dots);
-        for (size_t k = 0; k < WIDTH && a.number == 0; k++)
+        if (a.number != 0)
+            return refused("a line is", a);
+        for (size_t k = 0; k < WIDTH; k++)
             putchar(dots[k] == 0 ? ' ' : dots[k] == 15 ? '#' : '.');
         putchar('\n');
     }

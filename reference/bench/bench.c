@@ -3,7 +3,7 @@
  *
  * Both sides run in turn in one process, so that whatever else the machine does falls on both alike, and both are
  * called through pointers, so that neither is inlined. A row gives the median of the rounds and the ratio of the best
- * rounds. Included after the WITH_ definitions.
+ * rounds.
  */
 #define _POSIX_C_SOURCE 199309L
 #include "dirgeflint.h"
@@ -18,70 +18,35 @@ enum { ROUNDS = 31, PERIOD = 16384, SIDE = 1024, TEXT = 22540 };
 static const double ROUND = 4e6;
 
 typedef struct face {
-#ifdef WITH_PULSE
     dirgeflint_answer (*pulse_level)(uint32_t, uint8_t, uint32_t);
-#endif
-#ifdef WITH_DAC
     void (*dac_reset)(dirgeflint_dac *);
     void (*dac_write_low)(dirgeflint_dac *, uint8_t);
     void (*dac_write_high)(dirgeflint_dac *, uint8_t);
     dirgeflint_answer (*dac_play)(dirgeflint_dac *, uint32_t, uint8_t *, size_t);
-#endif
-#ifdef WITH_PORT
     dirgeflint_port (*port_fresh)(void);
     dirgeflint_port (*port_write_address)(dirgeflint_port, uint8_t);
     dirgeflint_port (*port_write_attribute)(dirgeflint_port, uint8_t);
     dirgeflint_port (*port_write_character)(dirgeflint_port, uint8_t);
-#endif
-#ifdef WITH_PAINT
     dirgeflint_answer (*paint)(const uint16_t *, size_t, const uint16_t *, size_t, dirgeflint_settings, uint32_t,
                                uint32_t, uint32_t, uint8_t *, size_t);
-#endif
-#ifdef WITH_HEX
     dirgeflint_answer (*hex_read)(const uint8_t *, size_t, uint8_t *, size_t);
     dirgeflint_answer (*hex_write)(const uint16_t *, size_t, uint8_t *, size_t);
     dirgeflint_answer (*image_to_font)(const uint8_t *, size_t, uint16_t *, size_t);
-#endif
-    char end; /* so that it has a member with no part at all */
 } face;
 
 /* Not constant, so that the compiler cannot see through the calls. */
 static face sides[2] = {
-    {
-#ifdef WITH_PULSE
-        dirgeflint_pulse_level,
-#endif
-#ifdef WITH_DAC
-        dirgeflint_dac_reset, dirgeflint_dac_write_low, dirgeflint_dac_write_high, dirgeflint_dac_play,
-#endif
-#ifdef WITH_PORT
-        dirgeflint_port_fresh, dirgeflint_port_write_address, dirgeflint_port_write_attribute,
-        dirgeflint_port_write_character,
-#endif
-#ifdef WITH_PAINT
-        dirgeflint_paint,
-#endif
-#ifdef WITH_HEX
-        dirgeflint_hex_read, dirgeflint_hex_write, dirgeflint_image_to_font,
-#endif
-        0 },
-    {
-#ifdef WITH_PULSE
-        fast_pulse_level,
-#endif
-#ifdef WITH_DAC
-        fast_dac_reset, fast_dac_write_low, fast_dac_write_high, fast_dac_play,
-#endif
-#ifdef WITH_PORT
-        fast_port_fresh, fast_port_write_address, fast_port_write_attribute, fast_port_write_character,
-#endif
-#ifdef WITH_PAINT
-        fast_paint,
-#endif
-#ifdef WITH_HEX
-        fast_hex_read, fast_hex_write, fast_image_to_font,
-#endif
-        0 },
+    { dirgeflint_pulse_level,
+      dirgeflint_dac_reset, dirgeflint_dac_write_low, dirgeflint_dac_write_high, dirgeflint_dac_play,
+      dirgeflint_port_fresh, dirgeflint_port_write_address, dirgeflint_port_write_attribute,
+      dirgeflint_port_write_character,
+      dirgeflint_paint,
+      dirgeflint_hex_read, dirgeflint_hex_write, dirgeflint_image_to_font },
+    { fast_pulse_level,
+      fast_dac_reset, fast_dac_write_low, fast_dac_write_high, fast_dac_play,
+      fast_port_fresh, fast_port_write_address, fast_port_write_attribute, fast_port_write_character,
+      fast_paint,
+      fast_hex_read, fast_hex_write, fast_image_to_font },
 };
 static face *volatile library = &sides[0];
 static face *volatile baseline = &sides[1];
@@ -96,7 +61,6 @@ typedef struct shape {
     int size;
 } shape;
 
-#ifdef WITH_PULSE
 static void pulse(const face *f, int size)
 {
     uint32_t high = 0;
@@ -106,9 +70,7 @@ static void pulse(const face *f, int size)
             high += f->pulse_level(channel, 77, t).value;
     seen = high;
 }
-#endif
 
-#ifdef WITH_DAC
 /* A period in calls of `size` clocks. */
 static void dac(const face *f, int size)
 {
@@ -132,9 +94,7 @@ static void dac_writes(const face *f, int size)
     }
     seen = record.completed.fine;
 }
-#endif
 
-#ifdef WITH_PORT
 static void port(const face *f, int size)
 {
     dirgeflint_port all = f->port_write_address(f->port_fresh(), 64);
@@ -143,9 +103,7 @@ static void port(const face *f, int size)
         all = f->port_write_character(f->port_write_attribute(all, i), i);
     seen = all.words[63];
 }
-#endif
 
-#if defined(WITH_PAINT) || defined(WITH_HEX)
 static const uint16_t *some_font(void)
 {
     static uint16_t font[1116];
@@ -153,9 +111,7 @@ static const uint16_t *some_font(void)
         font[i] = (uint16_t)(i * 2654 % 4096);
     return font;
 }
-#endif
 
-#ifdef WITH_PAINT
 static void frame(const face *f, const uint16_t *words)
 {
     static uint8_t dots[SIDE];
@@ -193,9 +149,7 @@ static void full(const face *f, int size)
         words[i] = (uint16_t)(i % row == 0 ? 988 + 4 * size : 16 * (i % 62) + 10);
     frame(f, words);
 }
-#endif
 
-#ifdef WITH_HEX
 static uint8_t text[TEXT];
 static uint8_t image[8192];
 
@@ -219,23 +173,15 @@ static void image_to_font(const face *f, int size)
     f->image_to_font(image, sizeof image, font, 1116);
     seen = font[7];
 }
-#endif
 
 static const shape shapes[] = {
-#ifdef WITH_PULSE
     { "pulse", "768 calls: each channel's period", pulse, 0 },
-#endif
-#ifdef WITH_DAC
     { "dac", "a period in one call", dac, PERIOD },
     { "dac", "a period in calls of 128 clocks", dac, 128 },
     { "dac", "a period in calls of 7 clocks", dac, 7 },
     { "dac", "a period in calls of 1 clock", dac, 1 },
     { "dac", "a reset and 500 pairs written", dac_writes, 500 },
-#endif
-#ifdef WITH_PORT
     { "port", "130 calls: the whole RAM written", port, 0 },
-#endif
-#ifdef WITH_PAINT
     { "paint", "a frame of 1024 x 1024, sparse, size 1", sparse, 1 },
     { "paint", "a frame of 1024 x 1024, full, size 1", full, 1 },
     { "paint", "a frame of 1024 x 1024, sparse, size 2", sparse, 2 },
@@ -244,14 +190,74 @@ static const shape shapes[] = {
     { "paint", "a frame of 1024 x 1024, full, size 3", full, 3 },
     { "paint", "a frame of 1024 x 1024, sparse, size 4", sparse, 4 },
     { "paint", "a frame of 1024 x 1024, full, size 4", full, 4 },
-#endif
-#ifdef WITH_HEX
     { "hex", "write a font's text", hex_write, 0 },
     { "hex", "read a font's text", hex_read, 0 },
     { "hex", "image to font", image_to_font, 0 },
-#endif
     { NULL, NULL, NULL, 0 },
 };
+
+/* The side that is checked before it is timed, and the number of its latest refusal. */
+static const face *checked;
+static uint32_t refused;
+
+static dirgeflint_answer noted(dirgeflint_answer answer)
+{
+    if (answer.number != 0)
+        refused = answer.number;
+    return answer;
+}
+
+static dirgeflint_answer checked_pulse_level(uint32_t channel, uint8_t byte, uint32_t t)
+{
+    return noted(checked->pulse_level(channel, byte, t));
+}
+
+static dirgeflint_answer checked_dac_play(dirgeflint_dac *record, uint32_t clocks, uint8_t *levels, size_t length)
+{
+    return noted(checked->dac_play(record, clocks, levels, length));
+}
+
+static dirgeflint_answer checked_paint(const uint16_t *words, size_t words_length, const uint16_t *font,
+                                       size_t font_length, dirgeflint_settings settings, uint32_t at, uint32_t line,
+                                       uint32_t width, uint8_t *dots, size_t length)
+{
+    return noted(checked->paint(words, words_length, font, font_length, settings, at, line, width, dots, length));
+}
+
+static dirgeflint_answer checked_hex_read(const uint8_t *from, size_t from_length, uint8_t *to, size_t to_length)
+{
+    return noted(checked->hex_read(from, from_length, to, to_length));
+}
+
+static dirgeflint_answer checked_hex_write(const uint16_t *font, size_t font_length, uint8_t *to, size_t to_length)
+{
+    return noted(checked->hex_write(font, font_length, to, to_length));
+}
+
+static dirgeflint_answer checked_image_to_font(const uint8_t *from, size_t from_length, uint16_t *to, size_t to_length)
+{
+    return noted(checked->image_to_font(from, from_length, to, to_length));
+}
+
+/* Runs the shape once, not timed, through calls that note a refusal; a refused call would be timed for no work. */
+static void check(const shape *s, const face *f)
+{
+    face through = *f;
+    through.pulse_level = checked_pulse_level;
+    through.dac_play = checked_dac_play;
+    through.paint = checked_paint;
+    through.hex_read = checked_hex_read;
+    through.hex_write = checked_hex_write;
+    through.image_to_font = checked_image_to_font;
+    checked = f;
+    refused = 0;
+    s->work(&through, s->size);
+    if (refused != 0) {
+        fprintf(stderr, "bench: %s, %s: the %s refuses with %u\n", s->part, s->name,
+                f == library ? "library" : "baseline", (unsigned)refused);
+        exit(1);
+    }
+}
 
 /* Nanoseconds for one run of the shape. */
 static double timed(const shape *s, const face *f, long repeats)
@@ -284,6 +290,8 @@ static void race(const shape *s)
     const face *side[2] = { library, baseline };
     long repeats[2];
     for (int i = 0; i < 2; i++)
+        check(s, side[i]);
+    for (int i = 0; i < 2; i++)
         repeats[i] = repeats_for(s, side[i]);
     for (int round = 0; round < ROUNDS; round++)
         for (int i = 0; i < 2; i++)
@@ -303,16 +311,14 @@ int main(int count, char **parts)
         while (s->part != NULL && strcmp(s->part, parts[i]) != 0)
             s++;
         if (s->part == NULL) {
-            fprintf(stderr, "bench: \"%s\" is no part that the library has\n", parts[i]);
+            fprintf(stderr, "bench: \"%s\" is no part of the library\n", parts[i]);
             return 2;
         }
     }
     printf("%-6s %-40s %14s %14s %8s %10s\n", "part", "shape", "library ns", "baseline ns", "ratio", "best ratio");
-#ifdef WITH_HEX
     /* So that reading has a text and an image even if the shapes before it are not run. */
     hex_write(baseline, 0);
     hex_read(baseline, 0);
-#endif
     for (const shape *s = shapes; s->part != NULL; s++) {
         bool wanted = count == 1;
         for (int i = 1; i < count; i++)

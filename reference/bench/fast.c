@@ -1,11 +1,10 @@
 /*
  * Baselines for the measurements: the library's calls written for speed, in C, so that both run on the same processor
  * or the same emulator. They have the library's names with `fast` for `dirgeflint`; `reference/compare --baseline` puts
- * them beside the model. Included by the files that need them, after the header and the WITH_ definitions.
+ * them beside the model. Included by the files that need them, after the header.
  */
 #include <string.h>
 
-#ifdef WITH_PULSE
 static dirgeflint_answer fast_pulse_level(uint32_t channel, uint8_t byte, uint32_t t)
 {
     uint32_t mask = 127u >> (channel >> 2 & 1);
@@ -16,9 +15,7 @@ static dirgeflint_answer fast_pulse_level(uint32_t channel, uint8_t byte, uint32
         answer.value = t < (byte & mask);
     return answer;
 }
-#endif
 
-#if defined(WITH_DAC) || defined(WITH_PAINT) || defined(WITH_HEX)
 static dirgeflint_answer fast_answer(uint32_t number, uint32_t place, uint32_t value)
 {
     dirgeflint_answer answer;
@@ -27,9 +24,7 @@ static dirgeflint_answer fast_answer(uint32_t number, uint32_t place, uint32_t v
     answer.value = value;
     return answer;
 }
-#endif
 
-#ifdef WITH_DAC
 static void fast_reduce(dirgeflint_dac *dac)
 {
     dac->position &= 16383;
@@ -89,9 +84,7 @@ static dirgeflint_answer fast_dac_play(dirgeflint_dac *dac, uint32_t clocks, uin
     dac->position = (uint16_t)position;
     return fast_answer(0, 0, 0);
 }
-#endif
 
-#ifdef WITH_PORT
 static dirgeflint_port fast_port_fresh(void)
 {
     dirgeflint_port port;
@@ -131,9 +124,7 @@ static dirgeflint_port fast_port_write_character(dirgeflint_port port, uint8_t b
     port.address = (port.address + 1) & 63;
     return port;
 }
-#endif
 
-#if defined(WITH_PAINT) || defined(WITH_HEX)
 static bool fast_is_font(const uint16_t *font, size_t font_length)
 {
     uint32_t all = 0;
@@ -143,9 +134,7 @@ static bool fast_is_font(const uint16_t *font, size_t font_length)
         all |= font[i];
     return all <= 4095;
 }
-#endif
 
-#ifdef WITH_PAINT
 static uint32_t fast_paint_number(const uint16_t *words, size_t words_length, const uint16_t *font, size_t font_length,
                                   const dirgeflint_settings *s, uint32_t line, uint32_t width, size_t dots_length)
 {
@@ -222,9 +211,7 @@ static dirgeflint_answer fast_paint(const uint16_t *words, size_t words_length, 
     }
     return fast_answer(0, 0, 0);
 }
-#endif
 
-#ifdef WITH_HEX
 static uint8_t fast_value[256];
 static const char fast_digits[] = "0123456789ABCDEF";
 
@@ -368,4 +355,3 @@ static dirgeflint_answer fast_image_to_font(const uint8_t *image, size_t image_l
                 (uint16_t)((image[4096 + 32 * cell + row] & 15) << 8 | image[32 * cell + row]);
     return fast_answer(0, 0, 0);
 }
-#endif

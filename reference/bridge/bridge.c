@@ -8,24 +8,31 @@
  * the slice lent for writing. Health 0: nothing outside the memory lent was written, and what was lent for reading is
  * as it was. Replies are held back until the request '.', which has no reply of its own, so that many calls can be
  * under way.
- *
- * WITH_PULSE, WITH_DAC, WITH_PORT, WITH_PAINT and WITH_HEX say which parts the library has.
  */
 #include "dirgeflint.h"
 #include <stdio.h>
 #include <stdlib.h>
 #include <string.h>
 
+/* With what status the bridge ends, if not with 0 at the end of its input. */
+enum {
+    CUT_SHORT = 2,   /* the input ended inside a request */
+    UNHEARD = 3,     /* a reply could not be written */
+    NO_MEMORY = 4,   /* there is no memory to lend */
+    TOO_LONG = 5,    /* a slice is longer than LIMIT bytes */
+    UNKNOWN_CALL = 6 /* no call has this letter */
+};
+
 static void take(void *to, size_t count)
 {
     if (count != 0 && fread(to, 1, count, stdin) != count)
-        exit(2);
+        exit(CUT_SHORT);
 }
 
 static void give(const void *from, size_t count)
 {
     if (count != 0 && fwrite(from, 1, count, stdout) != count)
-        exit(3);
+        exit(UNHEARD);
 }
 
 static void give_health(bool well)
@@ -34,7 +41,6 @@ static void give_health(bool well)
     give(&byte, 1);
 }
 
-#if defined(WITH_PULSE) || defined(WITH_DAC) || defined(WITH_PAINT) || defined(WITH_HEX)
 static uint32_t take_number(void)
 {
     uint32_t value;
@@ -48,18 +54,14 @@ static void give_answer(dirgeflint_answer answer)
     give(&answer.place, sizeof answer.place);
     give(&answer.value, sizeof answer.value);
 }
-#endif
 
-#if defined(WITH_PULSE) || defined(WITH_DAC) || defined(WITH_PORT)
 static uint8_t take_byte(void)
 {
     uint8_t value;
     take(&value, sizeof value);
     return value;
 }
-#endif
 
-#if defined(WITH_DAC) || defined(WITH_PAINT) || defined(WITH_HEX)
 enum { MARGIN = 16, LIMIT = 1 << 17, MARK = 0xC3 };
 
 /* Memory to lend, between two margins that are not lent. */
@@ -80,10 +82,10 @@ static void make(area *a, size_t size)
         a->whole = malloc(MARGIN + LIMIT + MARGIN);
         a->before = malloc(LIMIT);
         if (a->whole == NULL || a->before == NULL)
-            exit(4);
+            exit(NO_MEMORY);
     }
     if (size > LIMIT)
-        exit(5);
+        exit(TOO_LONG);
     a->size = size;
     memset(a->whole, MARK, MARGIN);
     memset(a->whole + MARGIN + size, MARK, MARGIN);
@@ -105,9 +107,7 @@ static size_t take_room(area *a, size_t element)
     take(start(a), a->size);
     return count;
 }
-#endif
 
-#if defined(WITH_PAINT) || defined(WITH_HEX)
 /* A slice lent for reading: returns its number of elements. */
 static size_t take_slice(area *a, size_t element)
 {
@@ -120,9 +120,7 @@ static bool stands(const area *a)
 {
     return margins_stand(a) && memcmp(a->before, start(a), a->size) == 0;
 }
-#endif
 
-#ifdef WITH_PULSE
 static void pulse_level(void)
 {
     uint32_t channel = take_number();
@@ -132,9 +130,7 @@ static void pulse_level(void)
     give_health(true);
     give_answer(answer);
 }
-#endif
 
-#ifdef WITH_DAC
 static area record, levels;
 
 static dirgeflint_dac *take_dac(void)
@@ -187,9 +183,7 @@ static void dac_play(void)
     give_dac(dac);
     give(start(&levels), levels.size);
 }
-#endif
 
-#ifdef WITH_PORT
 static void give_port(dirgeflint_port port)
 {
     give_health(true);
@@ -208,9 +202,7 @@ static void port_write(dirgeflint_port (*write)(dirgeflint_port, uint8_t))
     take(port.words, sizeof port.words);
     give_port(write(port, take_byte()));
 }
-#endif
 
-#ifdef WITH_PAINT
 static area words, rows, dots;
 
 static void paint(void)
@@ -235,9 +227,7 @@ static void paint(void)
     give_answer(answer);
     give(start(&dots), dots.size);
 }
-#endif
 
-#ifdef WITH_HEX
 static area given, wanted;
 
 static void hex_read(void)
@@ -269,7 +259,6 @@ static void image_to_font(void)
     give_answer(answer);
     give(start(&wanted), wanted.size);
 }
-#endif
 
 int main(void)
 {
@@ -278,30 +267,20 @@ int main(void)
     for (int call; (call = getchar()) != EOF;) {
         switch (call) {
         case '.': fflush(stdout); break;
-#ifdef WITH_PULSE
         case 'p': pulse_level(); break;
-#endif
-#ifdef WITH_DAC
         case 'r': dac_reset(); break;
         case 'l': dac_write(dirgeflint_dac_write_low); break;
         case 'h': dac_write(dirgeflint_dac_write_high); break;
         case 'y': dac_play(); break;
-#endif
-#ifdef WITH_PORT
         case 'f': give_port(dirgeflint_port_fresh()); break;
         case 'a': port_write(dirgeflint_port_write_address); break;
         case 't': port_write(dirgeflint_port_write_attribute); break;
         case 'c': port_write(dirgeflint_port_write_character); break;
-#endif
-#ifdef WITH_PAINT
         case 'P': paint(); break;
-#endif
-#ifdef WITH_HEX
         case 'R': hex_read(); break;
         case 'W': hex_write(); break;
         case 'I': image_to_font(); break;
-#endif
-        default: exit(6);
+        default: exit(UNKNOWN_CALL);
         }
     }
     return 0;

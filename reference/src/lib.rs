@@ -1,12 +1,13 @@
 //! The independent program of Dirgeflint.
 //!
-//! It is written from the customer's paper alone and shares no code with the library. `model` says what every call
-//! must answer, as plainly as possible and without care for speed. `compare` puts anything that implements the traits
-//! of `parts` beside the model, and `bridge` makes the library such a thing. `fast` gives the same answers quickly, so
-//! that the bridge can run ahead of the library. `cases` are texts for `fontcheck` with the line each must give, and
-//! `draw` turns a drawn font into its text.
+//! It is written from the customer's papers and, for the calls, the header; it shares no code with the library. `model`
+//! says what every call must answer, as plainly as possible and without care for speed. `compare` puts anything that
+//! implements the traits of `parts` beside the model, and `bridge` makes the library such a thing. `fast` gives the
+//! same answers quickly, so that the bridge can run ahead of the library. `random` makes the cases, each again from its
+//! seed and index. `cases` are texts for `fontcheck` with the line each must give, and `draw` turns a drawn font into
+//! its text.
 
-// The model counts with remainders, as the paper does.
+// The model counts with remainders, as the papers do.
 #![allow(clippy::manual_is_multiple_of)]
 
 pub mod bridge;

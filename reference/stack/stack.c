@@ -2,40 +2,55 @@
  * stack: how much stack each call of the library takes at most, in bytes, over inputs chosen to go deep.
  *
  * The memory below the caller's frame is marked, the call is made from that frame, and the lowest mark that is gone
- * tells how deep it went. Included after the WITH_ definitions.
+ * tells how deep it went.
  */
 #include "dirgeflint.h"
 #include <stdio.h>
-#include <string.h>
+#include <stdlib.h>
 
-enum { DEPTH = 1 << 18, MARK = 0xA5 };
+enum { DEPTH = 1 << 18 };
 
-__attribute__((noinline)) static void mark(void)
+/* Two marks, because a call may happen to leave a byte that equals one of them. */
+static const unsigned char marks[2] = { 0xA5, 0x5A };
+
+__attribute__((noinline)) static void mark(unsigned char byte)
 {
     volatile unsigned char room[DEPTH];
     for (size_t i = 0; i < DEPTH; i++)
-        room[i] = MARK;
+        room[i] = byte;
 }
 
-__attribute__((noinline)) static size_t depth(void)
+/*
+ * Reads an array that it never writes, on purpose: called from the same frame as mark and as large, it has its array
+ * where mark had its own, so what it finds there is what mark and then the call left. C promises nothing of the kind;
+ * volatile makes the compiler do the writing and the reading as they stand, and if the two arrays ever lay elsewhere no
+ * mark would be found, which measure takes for a failure.
+ */
+__attribute__((noinline)) static size_t depth(unsigned char byte)
 {
     volatile unsigned char room[DEPTH];
     size_t i = 0;
-    while (i < DEPTH && room[i] == MARK)
+    while (i < DEPTH && room[i] == byte)
         i++;
     return DEPTH - i;
 }
 
-/* Both see the same memory only if nothing comes between them, so the call is made through a pointer, with no arguments. */
+/* Both see the same memory only if nothing comes between them, so a call goes through a pointer, with no arguments. */
 static size_t deepest;
 
 __attribute__((noinline)) static void measure(void (*call)(void))
 {
-    mark();
-    call();
-    size_t deep = depth();
-    if (deep > deepest)
-        deepest = deep;
+    for (size_t i = 0; i < 2; i++) {
+        mark(marks[i]);
+        call();
+        size_t deep = depth(marks[i]);
+        if (deep == DEPTH) {
+            fputs("stack: a call went deeper than the marks, or the marks are not where they should be\n", stderr);
+            exit(1);
+        }
+        if (deep > deepest)
+            deepest = deep;
+    }
 }
 
 static size_t nothing;
@@ -50,15 +65,12 @@ static void none(void)
 {
 }
 
-#ifdef WITH_PULSE
 static volatile uint32_t channel, t;
 static void pulse_level(void)
 {
     dirgeflint_pulse_level(channel, 0xff, t);
 }
-#endif
 
-#ifdef WITH_DAC
 static dirgeflint_dac dac;
 static uint8_t levels[16384];
 static void dac_reset(void)
@@ -77,9 +89,7 @@ static void dac_play(void)
 {
     dirgeflint_dac_play(&dac, 16384, levels, sizeof levels);
 }
-#endif
 
-#ifdef WITH_PORT
 static dirgeflint_port port;
 static void port_fresh(void)
 {
@@ -97,13 +107,9 @@ static void port_write_character(void)
 {
     port = dirgeflint_port_write_character(port, 0xff);
 }
-#endif
 
-#if defined(WITH_PAINT) || defined(WITH_HEX)
 static uint16_t font[1116];
-#endif
 
-#ifdef WITH_PAINT
 static uint16_t words[64];
 static uint8_t dots[1024];
 static dirgeflint_settings settings = { 1, 3, 1, 0, 0, 0, 0 };
@@ -126,9 +132,7 @@ static void screens(void)
                 measure(paint);
         }
 }
-#endif
 
-#ifdef WITH_HEX
 static uint8_t text[65536], image[8192];
 static size_t text_length;
 static void hex_read(void)
@@ -143,20 +147,16 @@ static void image_to_font(void)
 {
     dirgeflint_image_to_font(image, sizeof image, font, 1116);
 }
-#endif
 
 int main(void)
 {
     measure(none);
     nothing = deepest;
     deepest = 0;
-#ifdef WITH_PULSE
     for (channel = 0; channel < 9; channel++)
         for (t = 0; t < 130; t++)
             measure(pulse_level);
     report("dirgeflint_pulse_level");
-#endif
-#ifdef WITH_DAC
     measure(dac_write_low);
     report("dirgeflint_dac_write_low");
     measure(dac_write_high);
@@ -166,8 +166,6 @@ int main(void)
     report("dirgeflint_dac_play");
     measure(dac_reset);
     report("dirgeflint_dac_reset");
-#endif
-#ifdef WITH_PORT
     measure(port_fresh);
     report("dirgeflint_port_fresh");
     measure(port_write_address);
@@ -176,12 +174,8 @@ int main(void)
     report("dirgeflint_port_write_attribute");
     measure(port_write_character);
     report("dirgeflint_port_write_character");
-#endif
-#ifdef WITH_PAINT
     screens();
     report("dirgeflint_paint");
-#endif
-#ifdef WITH_HEX
     measure(hex_write);
     report("dirgeflint_hex_write");
     text_length = 22540;
@@ -191,6 +185,5 @@ int main(void)
     report("dirgeflint_hex_read");
     measure(image_to_font);
     report("dirgeflint_image_to_font");
-#endif
     return 0;
 }

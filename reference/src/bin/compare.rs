@@ -10,17 +10,12 @@ use std::process::ExitCode;
 type Say<'a> = &'a mut dyn FnMut(String);
 type Run = fn(&Library, &Plan, Say) -> Result<u64, Difference>;
 
-/// The parts this binary was built with.
+/// The parts of the library, in the header's order.
 const PARTS: &[(&str, Run)] = &[
-    #[cfg(feature = "pulse")]
     ("pulse", |library, plan, say| reference::compare::pulse::run(library, plan, say)),
-    #[cfg(feature = "dac")]
     ("dac", |library, plan, say| reference::compare::dac::run(library, plan, say)),
-    #[cfg(feature = "port")]
     ("port", |library, plan, say| reference::compare::port::run(library, plan, say)),
-    #[cfg(feature = "paint")]
     ("paint", |library, plan, say| reference::compare::paint::run(library, plan, say)),
-    #[cfg(feature = "hex")]
     ("hex", |library, plan, say| reference::compare::hex::run(library, plan, say)),
 ];
 
@@ -45,7 +40,7 @@ fn request(arguments: impl Iterator<Item = String>) -> Result<Request, String> {
             other => {
                 let names: Vec<&str> = PARTS.iter().map(|(name, _)| *name).collect();
                 return Err(format!(
-                    "\"{other}\" is no part of this build ({}) and none of --seed N, --from N, --count N",
+                    "\"{other}\" is no part of the library ({}) and none of --seed N, --from N, --count N",
                     names.join(", ")
                 ));
             }

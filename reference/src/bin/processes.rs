@@ -53,7 +53,8 @@ fn main() -> ExitCode {
             reads_standard_input: false,
         },
     ];
-    let (there, missing): (Vec<&Program>, Vec<&Program>) = programs.iter().partition(|program| run(program, text).is_some());
+    let (there, missing): (Vec<&Program>, Vec<&Program>) =
+        programs.iter().partition(|program| run(program, text).is_some());
     for program in missing {
         println!("{:<10} cannot be run here: left out", program.name);
     }

@@ -23,7 +23,7 @@ enum Call {
 }
 
 /// One record in each hand, and what was done to them.
-struct Session<'a> {
+struct Sequence<'a> {
     subject: &'a dyn Dac,
     start: RunningRecord,
     expected: RunningRecord,
@@ -34,9 +34,9 @@ struct Session<'a> {
     comparisons: u64,
 }
 
-impl<'a> Session<'a> {
+impl<'a> Sequence<'a> {
     fn new(subject: &'a dyn Dac, start: RunningRecord) -> Self {
-        Session { subject, start, expected: start, got: start, calls: Vec::new(), watcher: None, comparisons: 0 }
+        Sequence { subject, start, expected: start, got: start, calls: Vec::new(), watcher: None, comparisons: 0 }
     }
 
     fn complaint(&self, what: &str) -> String {
@@ -101,18 +101,18 @@ impl<'a> Session<'a> {
 /// One pair over one whole period, in one play or cut in two, with the next pair already written.
 fn pair_case(subject: &dyn Dac, number: u64, random: &mut Random) -> CaseResult {
     let (coarse, fine) = ((number / 128) as u8, (number % 128) as u8);
-    let mut session = Session::new(subject, RunningRecord::default());
+    let mut sequence = Sequence::new(subject, RunningRecord::default());
     let cut = if random.one_in(2) { PERIOD } else { random.between(1, PERIOD) };
-    session.call(Call::Reset, random)?;
-    session.call(Call::WriteLow(fine | random.byte() & 128), random)?;
-    session.call(Call::WriteHigh(coarse | random.byte() & 128), random)?;
-    session.call(Call::Play { clocks: cut as u32, room: cut }, random)?;
-    session.call(Call::WriteLow(random.byte()), random)?;
-    session.call(Call::WriteHigh(random.byte()), random)?;
-    session.call(Call::Play { clocks: (PERIOD - cut) as u32, room: PERIOD - cut + 3 }, random)?;
-    session.call(Call::Play { clocks: 2, room: 2 }, random)?;
-    match session.watcher.map(|watcher| watcher.completed_periods()) {
-        Some(1) => Ok(session.comparisons),
+    sequence.call(Call::Reset, random)?;
+    sequence.call(Call::WriteLow(fine | random.byte() & 128), random)?;
+    sequence.call(Call::WriteHigh(coarse | random.byte() & 128), random)?;
+    sequence.call(Call::Play { clocks: cut as u32, room: cut }, random)?;
+    sequence.call(Call::WriteLow(random.byte()), random)?;
+    sequence.call(Call::WriteHigh(random.byte()), random)?;
+    sequence.call(Call::Play { clocks: (PERIOD - cut) as u32, room: PERIOD - cut + 3 }, random)?;
+    sequence.call(Call::Play { clocks: 2, room: 2 }, random)?;
+    match sequence.watcher.map(|watcher| watcher.completed_periods()) {
+        Some(1) => Ok(sequence.comparisons),
         counted => Err(format!("one whole period should have been counted, not {counted:?}")),
     }
 }
@@ -187,18 +187,18 @@ fn random_call(position: u16, long: bool, random: &mut Random) -> Call {
 fn sequence_case(subject: &dyn Dac, random: &mut Random) -> CaseResult {
     let long = random.one_in(50);
     let calls = if long { random.between(6, 40) } else { random.between(2, 16) };
-    let mut session;
+    let mut sequence;
     if random.one_in(3) {
-        session = Session::new(subject, start_record(random));
+        sequence = Sequence::new(subject, start_record(random));
     } else {
-        session = Session::new(subject, RunningRecord::default());
-        session.call(Call::Reset, random)?;
+        sequence = Sequence::new(subject, RunningRecord::default());
+        sequence.call(Call::Reset, random)?;
     }
     for _ in 0..calls {
-        let call = random_call(session.expected.position, long, random);
-        session.call(call, random)?;
+        let call = random_call(sequence.expected.position, long, random);
+        sequence.call(call, random)?;
     }
-    Ok(session.comparisons)
+    Ok(sequence.comparisons)
 }
 
 pub fn run(subject: &dyn Dac, plan: &Plan, say: &mut dyn FnMut(String)) -> Result<u64, Difference> {
