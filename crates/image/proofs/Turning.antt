@@ -8,14 +8,13 @@ use mathlib.Core.List.{List, [], _∷_}
 use Prim.Native.Nat.{ℕ, zero, suc, _+_, _-_, _*_, _/_, _%_, _<_, _≤_}
 use native.Mathlib.Decide.{decLt}
 use native.Mathlib.Omega.{arith}
-use lib.Dec.{ltb, leb, eqb, T}
+use lib.Dec.{ltb, leb, eqb}
 use lib.ListN.{length, getD}
-use borrow.Author.Tests.{lt-ltb, le-ltb, eq-eqb, eqb-true, ltb-true, ltb-false, leb-true, le-leb}
+use borrow.Author.Tests.{lt-ltb, le-ltb, eq-eqb, eqb-true, ltb-false, leb-true, le-leb}
 use Rattle.laws.specs.Pick.{both, pick}
 use Rattle.laws.specs.Said.{Said, accepted, refused}
 use Rattle.laws.specs.Within.{within}
 use Rattle.font.specs.Font.{isFont, rowOf}
-use Rattle.laws.specs.Lists.{tabulate}
 use Rattle.image.specs.Image.{imageOf, fontOf, dueAt, rowIn, lowAt, cellAt, lineAt, hasRow, leastAt, lacksAt, firstLack, answerOf}
 use Rattle.laws.proofs.Lists.{length-tabulate, getD-tabulate, is-tabulate, first-none, first-before, both-parts}
 

@@ -1,11 +1,11 @@
 -- `image::image_to_font` meets its contract: each way out fixes the tests of the answer, and with them what is left in the room.
 -- Assumes nothing.
-use Rattle.image.specs.Image.{answerOf, leftOf, firstLack}
+use Rattle.image.specs.Image.{answerOf, leftOf}
 use native.Mathlib.Omega.{arith}
 use borrow.Author.Tests.{eq-eqb, ne-eqb, lt-ltb, le-ltb}
-use lib.Dec.{ltb, eqb}
+use lib.Dec.{ltb}
 use lib.ListN.{length}
-use mathlib.Core.Path.{_≡_, refl, sym, _∙_, ap}
+use mathlib.Core.Path.{sym, _∙_, ap}
 use borrow.Author.Needs.{needs}
 use Rattle.image.proofs.image_to_font.Statement.{statement}
 use Rattle.image.proofs.image_to_font.Tie as tie
