@@ -1,4 +1,4 @@
--- What it is for a contract to determine the answer and the later contents of everything lent, said of the contract's own clauses.
+-- A contract determines its outcome: one answer, and one last value of each thing lent. Said of the contract's own clauses.
 -- A crate's proofs/Unique.antt has a `NAME-unique : Determines ..` for each of its public functions; `both-say` proves it where the one
 -- `ensures` is a plain fact: of two answers that meet it, it asks that they, and what they leave, are equal. Where the promise goes through
 -- a definition of the answer, as `said`, `told-apart` gives the answers back from what is said of them.

@@ -38,7 +38,7 @@ impl Watcher {
         self.writes.push(Write::High(byte % 128));
     }
 
-    /// 128 times the coarse half plus the fine half of the last pair completed since the last reset, or 0.
+    /// T as the writes since the last reset ask for it: 128 for each unit of the coarse half, one for each of the fine half; 0 before any pair.
     fn number_due(&self) -> u64 {
         let Some(last_high) = self.writes.iter().rposition(|write| matches!(write, Write::High(_))) else {
             return 0;

@@ -292,7 +292,7 @@ mod tests {
                     answer
                 }
             }),
-            ("fills the image and then finds a bad sum", |text, image| {
+            ("fills the image before it sees a bad sum", |text, image| {
                 let answer = Fast.read(text, image);
                 if answer.number == 8 {
                     image[..IMAGE_BYTES].fill(0xFF);
