@@ -191,8 +191,8 @@ fn stretch(levels: &mut [u8], clock: usize, high: usize)
     ensures { λ _. ⌜ now (levels .exit) ≡ pulse clock high (length (now (levels .entry))) ⌝ }
 {
     let turn = least(beyond(high, clock), levels.len());
-    fill(&mut levels[..turn], 1);
-    fill(&mut levels[turn..], 0);
+    fill::fill(&mut levels[..turn], 1);
+    fill::fill(&mut levels[turn..], 0);
 }
 
 // The clock that a fine half adds to sub-period n.
@@ -222,16 +222,6 @@ fn added(fine: u8, n: usize) -> u8
         return fine % 2;
     }
     0
-}
-
-fn fill(bytes: &mut [u8], byte: u8)
-    ensures { λ _. ⌜ now (bytes .exit) ≡ replicate (length (now (bytes .entry))) byte ⌝ }
-{
-    let mut i = 0;
-    while i < bytes.len() {
-        bytes[i] = byte;
-        i += 1;
-    }
 }
 
 fn least(a: usize, b: usize) -> usize

@@ -136,7 +136,7 @@ pub fn paint(
             let top = Lines(4 * settings.v as usize);
             paint_line(words, font, view, top, settings.colour as u8, dots);
         } else {
-            fill(dots, 0);
+            fill::fill(dots, 0);
         }
     }
     verdict
@@ -206,7 +206,7 @@ fn paint_line(words: &[u16], font: &[u16], view: View, top: Lines, start: u8, ou
     requires { ⌜ (length (now words) ≡ wordCount) × ((length (now font) ≡ fontRows) × ((view .left .0 ≤ 252) × ((top .0 ≤ 252) × (start ≤ 7)))) ⌝ }
     ensures { λ _. ⌜ now (out .exit) ≡ tabulate (length (now (out .entry))) (dotAt (now (font .entry)) view start (cells (view .left) top start (now (words .entry)))) ⌝ }
 {
-    fill(out, outside(view.mode, start));
+    fill::fill(out, outside(view.mode, start));
     row_step(words, font, view, top, 1, start, out);
 }
 
@@ -508,16 +508,6 @@ fn outside(mode: u32, start: u8) -> u8
     ensures { λ r. ⌜ r ≡ outsideByte mode start ⌝ }
 {
     if mode <= 2 { 0 } else { 8 + start }
-}
-
-fn fill(out: &mut [u8], byte: u8)
-    ensures { λ _. ⌜ now (out .exit) ≡ replicate (length (now (out .entry))) byte ⌝ }
-{
-    let mut i = 0;
-    while i < out.len() {
-        out[i] = byte;
-        i += 1;
-    }
 }
 
 // Whether this frame is in the lit part of a blinking character.

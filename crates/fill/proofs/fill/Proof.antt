@@ -1,4 +1,4 @@
--- `dac::fill` meets its contract: after i stores the first i bytes are the byte, and the others as they came.
+-- `fill::fill` meets its contract: after i stores the first i bytes are the byte, and the others as they came.
 -- Assumes nothing.
 use Prim.Native.Nat.{_+_, _-_, _≤_}
 use mathlib.Core.Path.{_≡_, ap, _∙_}
@@ -8,8 +8,8 @@ use lib.ListN.{length, drop, set, replicate, length-set}
 use lib.Seq.{drop-length}
 use borrow.Author.Needs.{needs}
 use borrow.Author.Fill.{fill-more}
-use Rattle.dac.proofs.fill.Statement.{statement}
-use Rattle.dac.proofs.fill.Tie as tie
+use Rattle.fill.proofs.fill.Statement.{statement}
+use Rattle.fill.proofs.fill.Tie as tie
 
 abbrev Inv-loop : tie.InvT-loop
 Inv-loop bytes₀ byte i₀ bytes i = (length bytes ≡ length bytes₀) × (i ≤ length bytes₀) × (bytes ≡ replicate i byte ++ drop i bytes₀)
