@@ -14,10 +14,10 @@ use borrow.Author.Tests.{ltb-true, ltb-false, eq-eqb, ne-eqb}
 use Rattle.laws.specs.Pick.{pick}
 use Rattle.dac.specs.declared.Pair.{Pair}
 use Rattle.dac.specs.declared.Dac.{Dac}
-use Rattle.dac.specs.Wave.{period, added, level}
-use Rattle.dac.specs.Steps.{keptPair, dacOf, kept, playing, nextLevel, clocked, afterClocks, levelsOf}
+use Rattle.dac.specs.Wave.{period, subPeriod, added, level, wave}
+use Rattle.dac.specs.Steps.{halves, keptPair, dacOf, kept, playing, nextLevel, clocked, afterClocks, levelsOf}
 use Rattle.dac.specs.Play.{over}
-use Rattle.dac.specs.Stretch.{wave, pulse}
+use Rattle.dac.specs.Stretch.{pulse}
 
 pub length-wave : (q : Pair) (a n : ℕ) → length (wave q a n) ≡ n
 unfolding wave
@@ -61,25 +61,25 @@ no-pulse i x =
     let b : 0 - (x - i) ≡ 0 = omega arith in
     rw (a, b)
 
-level-at : (q : Pair) (s i : ℕ) → i < 128 → level q (128 * s + i) ≡ pick (ltb i (q .coarse + added (q .fine) s)) 1 0
+level-at : (q : Pair) (s i : ℕ) → i < subPeriod → level q (subPeriod * s + i) ≡ pick (ltb i (q .coarse + added (q .fine) s)) 1 0
 unfolding level
 level-at q s i h =
-    let a : (128 * s + i) % 128 ≡ i = omega arith in
-    let b : (128 * s + i) / 128 ≡ s = omega arith in
+    let a : (subPeriod * s + i) % subPeriod ≡ i = omega arith in
+    let b : (subPeriod * s + i) / subPeriod ≡ s = omega arith in
     rw (a, b)
 
 -- the clocks of sub-period s from its i-th on
-pub within-sub : (q : Pair) (s n i : ℕ) → i + n ≤ 128 → wave q (128 * s + i) n ≡ pulse i (q .coarse + added (q .fine) s) n
+pub within-sub : (q : Pair) (s n i : ℕ) → i + n ≤ subPeriod → wave q (subPeriod * s + i) n ≡ pulse i (q .coarse + added (q .fine) s) n
 unfolding wave
 within-sub q s zero i h = no-pulse i (q .coarse + added (q .fine) s)
 within-sub q s (suc n) i h =
     let x : ℕ = q .coarse + added (q .fine) s in
-    let rest : wave q (suc (128 * s + i)) n ≡ pulse (suc i) x n = rw (← add-suc) (within-sub q s n (suc i) (omega arith)) in
+    let rest : wave q (suc (subPeriod * s + i)) n ≡ pulse (suc i) x n = rw (← add-suc) (within-sub q s n (suc i) (omega arith)) in
     ap₂ (λ (l : ℕ) (ls : List ℕ). l ∷ ls) (level-at q s i (omega arith)) rest ∙ one-clock i x n
 
 -- the same by the position a of the first of them
-pub as-pulse : (q : Pair) (a n : ℕ) → a % 128 + n ≤ 128 → wave q a n ≡ pulse (a % 128) (q .coarse + added (q .fine) (a / 128)) n
-as-pulse q a n h = let e : a ≡ 128 * (a / 128) + a % 128 = omega arith in ap (λ (p : ℕ). wave q p n) e ∙ within-sub q (a / 128) n (a % 128) h
+pub as-pulse : (q : Pair) (a n : ℕ) → a % subPeriod + n ≤ subPeriod → wave q a n ≡ pulse (a % subPeriod) (q .coarse + added (q .fine) (a / subPeriod)) n
+as-pulse q a n h = let e : a ≡ subPeriod * (a / subPeriod) + a % subPeriod = omega arith in ap (λ (p : ℕ). wave q p n) e ∙ within-sub q (a / subPeriod) n (a % subPeriod) h
 
 -- a part written behind the first elements xs: what is lent, and what the whole is after it
 module _ (xs s : List ℕ) (i k : ℕ) (long : length xs ≡ i) where
@@ -123,10 +123,10 @@ pub length-laid : (q : Pair) (from i : ℕ) (s : List ℕ) → i ≤ length s �
 length-laid q from i s h = omega (arith, length-append (wave q from i) (drop i s), length-drop i s, length-wave q from i)
 
 -- Kept values are kept as they are.
-pub pair-kept : (q : Pair) → q .coarse < 128 → q .fine < 128 → keptPair q ≡ q
+pub pair-kept : (q : Pair) → q .coarse < halves → q .fine < halves → keptPair q ≡ q
 pair-kept q hc hf =
-    let a : q .coarse % 128 ≡ q .coarse = omega arith in
-    let b : q .fine % 128 ≡ q .fine = omega arith in
+    let a : q .coarse % halves ≡ q .coarse = omega arith in
+    let b : q .fine % halves ≡ q .fine = omega arith in
     rw (a, b)
 
 pub keptPair-kept : (q : Pair) → keptPair (keptPair q) ≡ keptPair q

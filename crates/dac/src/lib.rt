@@ -3,10 +3,10 @@
 ghost use mathlib.Core.Path.{_≡_};
 ghost use Prim.Native.Nat.{_+_, _-_, _<_, _≤_, min};
 ghost use lib.ListN.{length, replicate};
-ghost use Rattle.dac.specs.Wave.{period, added as addedOf};
+ghost use Rattle.dac.specs.Wave.{period, subPeriods, added as addedOf, wave};
 ghost use Rattle.dac.specs.Steps.{keptPair, kept as keptOf, afterReset, lowWritten, highWritten, playing as playingOf, afterClocks, levelsOf};
 ghost use Rattle.dac.specs.Play.{answerOf, afterPlay, lentAfter, over, said};
-ghost use Rattle.dac.specs.Stretch.{wave, pulse};
+ghost use Rattle.dac.specs.Stretch.{pulse};
 
 // In clocks.
 const PERIOD: usize = 16384;
@@ -197,7 +197,7 @@ fn stretch(levels: &mut [u8], clock: usize, high: usize)
 
 // The clock that a fine half adds to sub-period n.
 fn added(fine: u8, n: usize) -> u8
-    requires { ⌜ n < 128 ⌝ }
+    requires { ⌜ n < subPeriods ⌝ }
     ensures { λ r. ⌜ r ≡ addedOf fine n ⌝ }
 {
     if n % 2 != 0 {

@@ -6,17 +6,17 @@ use mathlib.Core.List.{List, [], _∷_, _++_}
 use mathlib.Core.Bool.{false}
 use lib.Count.{trailingZeros}
 use lib.ListN.{length, replicate}
 use Rattle.dac.specs.declared.Pair.{Pair}
 use Rattle.dac.specs.declared.Dac.{Dac}
-use Rattle.dac.specs.Wave.{period, bit, added, level}
+use Rattle.dac.specs.Wave.{period, subPeriods, bit, added, level}
 use Rattle.dac.specs.Steps.{keptPair, kept, afterReset, lowWritten, highWritten, afterClocks, levelsOf}
 use Rattle.dac.specs.Play.{tooMany, afterPlay, lentAfter}
-use Rattle.dac.specs.Demand.{Event, play, run, clock, history, since, Period}
+use Rattle.periods.specs.Demand.{Event, play, run, clock, history, since, Period}
 
 -- Fine bit b serves exactly the sub-periods from 1 to 127 that end in 6 - b zero bits; sub-period 0 gets nothing.
 abbrev pub Serves : Type 0
 Serves =
-    (fine : ℕ) → (added fine 0 ≡ 0) × ((b n : ℕ) → b ≤ 6 → 0 < n → n < 128 → trailingZeros 7 n ≡ 6 - b → added fine n ≡ bit fine b)
+    (fine : ℕ) → (added fine 0 ≡ 0) × ((b n : ℕ) → b ≤ 6 → 0 < n → n < subPeriods → trailingZeros 7 n ≡ 6 - b → added fine n ≡ bit fine b)
 
 -- Two pairs are the same only if both halves are: pairs that give the same level at every position agree in both.
 abbrev pub BothHalves : Type 0

@@ -12,16 +12,15 @@ use lib.ListN.{length, take, drop, replicate}
 use lib.Seq.{drop-at}
 use borrow.Author.Tests.{le-ltb}
 use Rattle.laws.specs.Pick.{pick}
 use Rattle.dac.specs.declared.Pair.{Pair}
 use Rattle.dac.specs.declared.Dac.{Dac}
-use Rattle.dac.specs.Wave.{period, pair, total, level}
-use Rattle.dac.specs.Steps.{keptHalf, keptPair, kept, afterReset, lowWritten, highWritten, playing, nextLevel, clocked, afterClocks, levelsOf}
+use Rattle.dac.specs.Wave.{period, pair, level, wave}
+use Rattle.dac.specs.Steps.{halves, keptHalf, keptPair, kept, afterReset, lowWritten, highWritten, playing, nextLevel, clocked, afterClocks, levelsOf}
 use Rattle.dac.specs.Play.{tooMany, afterPlay, levelsPlayed}
-use Rattle.dac.specs.Stretch.{wave}
-use Rattle.dac.specs.Demand.{Event, low, high, play, reset, step, puts, run, output, Moment, wroteLow, wroteHigh, clock, cleared, momentsOf, moments, lastLow, lastPair, since, clocks, unreset, Period, heard, Shares, Demand3, Unaltered, history, Playable}
-use Rattle.dac.specs.Theorems.{Placed, Reached}
+use Rattle.periods.specs.Demand.{Event, low, high, play, reset, step, puts, run, output, Moment, wroteLow, wroteHigh, clock, cleared, momentsOf, moments, lastLow, lastPair, since, clocks, unreset, Period, heard, highClocks, Shares, Demand3, Unaltered, history, Playable}
+use Rattle.periods.specs.Theorems.{Placed, Reached}
 use Rattle.dac.proofs.Within.{pair-kept, first-plays, later-plays}
-use Rattle.dac.proofs.Count.{shares}
+use Rattle.periods.proofs.Count.{shares}
 
 -- what one moment makes of the record, and what a stretch of them does and puts out
 act : Moment → Dac → Dac
@@ -136,7 +135,7 @@ length-sound (clock ∷ ms) d = ap suc (length-sound ms (clocked (kept d)))
 length-sound (cleared ∷ ms) d = length-sound ms afterReset
 
 -- halves of a history are kept ones
-low-small : (h : List Moment) → lastLow h < 128
+low-small : (h : List Moment) → lastLow h < halves
 unfolding lastLow
 low-small [] = omega arith
 low-small (wroteLow byte ∷ h) = omega arith
@@ -144,7 +143,7 @@ low-small (wroteHigh byte ∷ h) = low-small h
 low-small (clock ∷ h) = low-small h
 low-small (cleared ∷ h) = omega arith
 
-pair-small : (h : List Moment) → (lastPair h .coarse < 128) × (lastPair h .fine < 128)
+pair-small : (h : List Moment) → (lastPair h .coarse < halves) × (lastPair h .fine < halves)
 unfolding lastPair
 pair-small [] = (omega arith, omega arith)
 pair-small (wroteLow byte ∷ h) = pair-small h
@@ -241,7 +240,7 @@ module _ (es : List Event) (h p rest : List Moment) (P : Period es h p rest) whe
 
 pub demand3 : Demand3
 demand3 es h p rest P =
-    subst (λ (w : List ℕ). Shares (total (lastPair h)) w) (sym (is-wave es h p rest P)) (shares (lastPair h) (pair-small h .0) (pair-small h .1))
+    subst (λ (w : List ℕ). Shares (highClocks (lastPair h)) w) (sym (is-wave es h p rest P)) (shares (lastPair h) (pair-small h .0) (pair-small h .1))
 
 pub unaltered : Unaltered
 unaltered es h p rest P es′ h′ p′ rest′ P′ e = is-wave es h p rest P ∙ ap (λ (q : Pair). wave q 0 period) e ∙ sym (is-wave es′ h′ p′ rest′ P′)

@@ -1,0 +1,4 @@
+pub mod Count
+pub mod Fair
+pub mod Proved
+pub mod Stream
