@@ -2,7 +2,7 @@
 // made; a play of no clocks and a refused play give it back as it came, every other call gives back kept values only.
 ghost use mathlib.Core.Path.{_≡_};
 ghost use Prim.Native.Nat.{_+_, _-_, _<_, _≤_, min};
-ghost use lib.ListN.{length, replicate};
+ghost use lib.ListN.{length};
 ghost use Rattle.dac.specs.Wave.{period, subPeriods, added as addedOf, wave};
 ghost use Rattle.dac.specs.Steps.{keptPair, kept as keptOf, afterReset, lowWritten, highWritten, playing as playingOf, afterClocks, levelsOf};
 ghost use Rattle.dac.specs.Play.{answerOf, afterPlay, lentAfter, over, said};

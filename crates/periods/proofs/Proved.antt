@@ -1,4 +1,4 @@
--- The statements of specs/Theorems.antt, proved from the laws of the other files; `placed` and `reached` are in proofs/Stream.antt.
+-- The statements of specs/Theorems.antt about the definitions, from dac's own laws of them and from the count of high clocks.
 -- Assumes nothing.
 use Prim.Native.Nat.{ℕ, zero, suc, _+_, _-_, _%_, _<_, _≤_}
 use mathlib.Core.Path.{_≡_, refl, sym, ap, ap₂, _∙_}
@@ -7,17 +7,17 @@ use mathlib.Core.List.{List, [], _∷_, _++_, append-assoc, append-nil}
 use native.Mathlib.Omega.{arith}
 use lib.Count.{trailingZeros}
 use lib.Dec.{ltb}
-use lib.ListN.{length, drop, length-append}
-use lib.Seq.{drop-length, drop-append-add}
+use lib.ListN.{length, take, drop, length-append}
+use lib.Seq.{take-at, drop-at, drop-length, drop-append-add}
 use borrow.Author.Tests.{ne-eqb, ltb-false}
 use Rattle.dac.specs.declared.Pair.{Pair}
 use Rattle.dac.specs.declared.Dac.{Dac}
 use Rattle.dac.specs.Wave.{period, subPeriods, pair, bit, added, level, wave}
 use Rattle.dac.specs.Steps.{halves, keptHalf, keptPair, dacOf, kept, nextLevel, clocked, afterClocks, levelsOf}
 use Rattle.dac.specs.Play.{tooMany, afterPlay, levelsPlayed, lentAfter}
-use Rattle.periods.specs.Theorems.{Serves, BothHalves, Joined, Kept}
+use Rattle.periods.specs.Theorems.{Serves, BothHalves, Joined, Found, Kept}
 use Rattle.dac.proofs.Within.{pair-kept, keptPair-kept, playing-kept, length-levels, levels-split, after-split}
-use Rattle.dac.proofs.Answers.{may, accepted-play}
+use Rattle.dac.proofs.Answers.{may, refused-play, accepted-play}
 use Rattle.periods.proofs.Count.{one-pair}
 
 pub serves : Serves
@@ -74,6 +74,17 @@ joined d a b s t e accepted =
       rw (first, lent-played d a s first-may, lent-played (afterClocks a d) b t then-may, lent-played d (a + b) (s ++ t) accepted, empty, behind, append-nil (levelsOf a d), levels-split a b d)
           (sym (append-assoc (levelsOf a d) (levelsOf b (afterClocks a d)) (drop b t))),
     )
+
+pub found : Found
+unfolding levelsPlayed
+found d c lent = (accepted, refused)
+  where
+    accepted : tooMany c (length lent) ≡ false → (take c (lentAfter d c lent) ≡ levelsPlayed d c (length lent)) × (drop c (lentAfter d c lent) ≡ drop c lent)
+    accepted e =
+        rw (lent-played d c lent e, e) (take-at (levelsOf c d) (drop c lent) c (length-levels c d), drop-at (levelsOf c d) (drop c lent) c (length-levels c d))
+
+    refused : tooMany c (length lent) ≡ true → (levelsPlayed d c (length lent) ≡ []) × (lentAfter d c lent ≡ lent)
+    refused e = (rw e refl, sym (refused-play d c lent e .2))
 
 -- a record whose parts are kept is as its kept form
 kept-parts : (p : ℕ) (h c f : Pair) → p < period → keptPair h ≡ h → keptPair c ≡ c → keptPair f ≡ f → kept (dacOf p h c f) ≡ dacOf p h c f

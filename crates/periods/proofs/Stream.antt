@@ -2,23 +2,22 @@
 -- the history says; so at a period's first clock the last completed pair comes into force, and with no reset it stays to the period's end,
 -- whatever is written. The period's levels are then the wave of that pair, which has the shares asked for.
 -- Assumes nothing.
-use Prim.Native.Nat.{ℕ, zero, suc, _+_, _-_, _%_, _<_, _≤_}
+use Prim.Native.Nat.{ℕ, zero, suc, _+_, _%_, _<_, _≤_}
 use mathlib.Core.Path.{_≡_, refl, subst, sym, ap, ap₂, _∙_}
 use mathlib.Core.Bool.{Bool, true, false, false≢true}
-use mathlib.Core.List.{List, [], _∷_, _++_, append-assoc, reverse, reverseAux, reverse-reverse}
+use mathlib.Core.List.{List, [], _∷_, _++_, reverse, reverseAux, reverse-reverse}
 use native.Mathlib.Nat.{add-zero}
 use native.Mathlib.Omega.{arith}
 use lib.ListN.{length, take, drop, replicate}
 use lib.Seq.{drop-at}
-use borrow.Author.Tests.{le-ltb}
 use Rattle.laws.specs.Pick.{pick}
 use Rattle.dac.specs.declared.Pair.{Pair}
 use Rattle.dac.specs.declared.Dac.{Dac}
 use Rattle.dac.specs.Wave.{period, pair, level, wave}
 use Rattle.dac.specs.Steps.{halves, keptHalf, keptPair, kept, afterReset, lowWritten, highWritten, playing, nextLevel, clocked, afterClocks, levelsOf}
 use Rattle.dac.specs.Play.{tooMany, afterPlay, levelsPlayed}
-use Rattle.periods.specs.Demand.{Event, low, high, play, reset, step, puts, run, output, Moment, wroteLow, wroteHigh, clock, cleared, momentsOf, moments, lastLow, lastPair, since, clocks, unreset, Period, heard, highClocks, Shares, Demand3, Unaltered, history, Playable}
-use Rattle.periods.specs.Theorems.{Placed, Reached}
+use Rattle.periods.specs.Demand.{Event, low, high, play, reset, step, puts, run, output, Moment, wroteLow, wroteHigh, clock, cleared, momentsOf, moments, lastLow, lastPair, since, clocks, unreset, Period, heard, highClocks, Shares, Demand3, Unaltered, history}
+use Rattle.periods.specs.Theorems.{Waves, Placed}
 use Rattle.dac.proofs.Within.{pair-kept, first-plays, later-plays}
 use Rattle.periods.proofs.Count.{shares}
 
@@ -231,19 +230,22 @@ module _ (es : List Event) (h p rest : List Moment) (P : Period es h p rest) whe
       ap₂ (λ (x : ℕ) (y : List ℕ). x ∷ y) (level-by (kept (past h)) (lastPair h) 0 comes-in at-start)
       (goes-on p rest (clocked (kept (past h))) (lastPair h) 1 (last-kept h) (P .unbroken) (clocked-force (kept (past h)) ∙ comes-in) (clocked-position (kept (past h)) 0 at-start) (omega arith) (omega (arith, P .ended)))
 
-  pub is-wave : heard es h ≡ wave (lastPair h) 0 period
+  is-wave : heard es h ≡ wave (lastPair h) 0 period
   is-wave =
       ap (λ (l : List ℕ). take period (drop (clocks h) l)) (output-sound es afterReset ∙ ap (λ (ms : List Moment). sound ms afterReset) split ∙ sound-append (reverse h) tail afterReset)
       ∙ ap (λ (l : List ℕ). take period l) (drop-at (sound (reverse h) afterReset) (sound tail (through (reverse h) afterReset)) (clocks h) (length-sound (reverse h) afterReset ∙ clocks-history h))
       ∙ ap (λ (d : Dac). take period (sound tail d)) (through-history h)
       ∙ subst (λ (n : ℕ). take n (sound tail (past h)) ≡ wave (lastPair h) 0 n) (P .ended) from-first
 
+pub waves : Waves
+waves = is-wave
+
 pub demand3 : Demand3
 demand3 es h p rest P =
-    subst (λ (w : List ℕ). Shares (highClocks (lastPair h)) w) (sym (is-wave es h p rest P)) (shares (lastPair h) (pair-small h .0) (pair-small h .1))
+    subst (λ (w : List ℕ). Shares (highClocks (lastPair h)) w) (sym (waves es h p rest P)) (shares (lastPair h) (pair-small h .0) (pair-small h .1))
 
 pub unaltered : Unaltered
-unaltered es h p rest P es′ h′ p′ rest′ P′ e = is-wave es h p rest P ∙ ap (λ (q : Pair). wave q 0 period) e ∙ sym (is-wave es′ h′ p′ rest′ P′)
+unaltered es h p rest P es′ h′ p′ rest′ P′ e = waves es h p rest P ∙ ap (λ (q : Pair). wave q 0 period) e ∙ sym (waves es′ h′ p′ rest′ P′)
 
 -- where a sequence from reset ends
 run-past : (es : List Event) → run es afterReset ≡ past (history es)
@@ -259,33 +261,3 @@ past-place (cleared ∷ h) = refl
 
 pub placed : Placed
 placed es = ap (λ (d : Dac). d .position) (run-past es) ∙ past-place (history es)
-
--- a play of a whole period, where a period starts
-moments-append : (es fs : List Event) → moments (es ++ fs) ≡ moments es ++ moments fs
-unfolding moments
-moments-append [] fs = refl
-moments-append (e ∷ es) fs = ap (λ (l : List Moment). momentsOf e ++ l) (moments-append es fs) ∙ sym (append-assoc (momentsOf e) (moments es) (moments fs))
-
-all-clocks : (n : ℕ) → (clocks (replicate n clock) ≡ n) × (unreset (replicate n clock) ≡ true)
-unfolding clocks unreset
-all-clocks zero = (refl, refl)
-all-clocks (suc n) = (ap suc (all-clocks n .0), all-clocks n .1)
-
-whole-play : (room : ℕ) → period ≤ room → moments (play period room ∷ []) ≡ clock ∷ (replicate (period - 1) clock ++ [])
-unfolding moments momentsOf
-whole-play room h = rw (le-ltb room period h)
-
-one-more : (ms : List Moment) → clocks (clock ∷ ms) ≡ suc (clocks ms)
-unfolding clocks
-one-more ms = refl
-
-pub playable : Playable
-playable es room h s = record {
-  whole = moments-append es (play period room ∷ []) ∙ ap₂ (λ (a b : List Moment). a ++ b) (sym (reverse-reverse (moments es))) (whole-play room h);
-  starts = s;
-  unbroken = all-clocks (period - 1) .1;
-  ended = one-more (replicate (period - 1) clock) ∙ ap suc (all-clocks (period - 1) .0);
-}
-
-pub reached : Reached
-reached es room h e = playable es room h (sym (placed es) ∙ e)

@@ -148,3 +148,20 @@ abbrev pub Playable : Type 0
 Playable =
     (es : List Event) (room : ℕ) → period ≤ room → since (history es) % period ≡ 0
     → Period (es ++ (play period room ∷ [])) (history es) (replicate (period - 1) clock) []
+
+-- And such with writes in them: the period in two plays, a clocks and then b, with a low and a high half written between the two.
+abbrev pub writtenInto : ℕ → ℕ → ℕ → ℕ → ℕ → ℕ → List Event
+writtenInto a room x y b room′ = play a room ∷ low x ∷ high y ∷ play b room′ ∷ []
+
+abbrev pub Writable : Type 0
+Writable =
+    (es : List Event) (a room x y b room′ : ℕ) → 0 < a → a + b ≡ period → a ≤ room → b ≤ room′ → since (history es) % period ≡ 0
+    → Period (es ++ writtenInto a room x y b room′) (history es) (replicate (a - 1) clock ++ (wroteLow x ∷ wroteHigh y ∷ replicate b clock)) []
+
+-- So the pair written into a period leaves its levels as if it had been played at once with no write, and is the one that the next goes by.
+abbrev pub Undisturbed : Type 0
+Undisturbed =
+    (es : List Event) (a room x y b room′ whole : ℕ) → 0 < a → a + b ≡ period → a ≤ room → b ≤ room′ → period ≤ whole → since (history es) % period ≡ 0
+    → let fs = es ++ writtenInto a room x y b room′ in
+    (heard fs (history es) ≡ heard (es ++ (play period whole ∷ [])) (history es))
+    × (since (history fs) % period ≡ 0) × (lastPair (history fs) ≡ pair (keptHalf y) (keptHalf x))
