@@ -100,15 +100,19 @@ module _ (s high low : List ℕ) (i x t : ℕ) (turns : t ≡ min (x - i) (lengt
   left : length (high ++ drop t s) - t ≡ length s - t
   left = omega (arith, length-append high (drop t s), length-drop t s, long-high)
 
+  then-low : length (take (length s - t) (drop t s)) ≡ length s - (x - i)
+  then-low = omega (arith, length-take-le (length s - t) (drop t s) (omega (arith, length-drop t s)))
+
+  none-left : drop (length s - t) (drop t s) ≡ []
+  none-left = let whole : t + (length s - t) ≡ length s = omega arith in rw (drop-drop, whole) (drop-length s)
+
   pub filled : low ≡ replicate (length (take (length (high ++ drop t s) - t) (drop t (high ++ drop t s)))) 0
       → take t (high ++ drop t s) ++ (low ++ drop (length (high ++ drop t s) - t) (drop t (high ++ drop t s))) ≡ pulse i x (length s)
   unfolding pulse
   filled f =
-      let whole : t + (length s - t) ≡ length s = omega arith in
-      let a : length (take (length s - t) (drop t s)) ≡ length s - (x - i) = omega (arith, length-take-le (length s - t) (drop t s) (omega (arith, length-drop t s))) in
-      let b : low ≡ replicate (length s - (x - i)) 0 = f ∙ rw (left, behind high (drop t s) t (length s - t) long-high, a) in
+      let low-is : low ≡ replicate (length s - (x - i)) 0 = f ∙ rw (left, behind high (drop t s) t (length s - t) long-high, then-low) in
       put-behind high (drop t s) t (length (high ++ drop t s) - t) long-high low
-      ∙ rw (left, drop-drop, whole, drop-length s) (ap₂ (λ (h l : List ℕ). h ++ l) (high-is ∙ ap (λ (n : ℕ). replicate n 1) turns) (append-nil low ∙ b))
+      ∙ rw (left, none-left, append-nil low, low-is, high-is, ← turns)
 
 -- the bytes of a wave so far, when the next stretch has come to its end e
 module _ (q : Pair) (from i e : ℕ) (s ys : List ℕ) (on : i ≤ e) (is : ys ≡ wave q (from + i) (e - i)) where
