@@ -226,11 +226,12 @@ position-small d k is = let p : k .position ≡ kept d .position = ap (λ (x : D
 
 -- What `run` finds for a record: its kept form k, and the pair q by which the next clock is played. A play that ends within the period under way:
 module _ (d k : Dac) (q : Pair) (is : k ≡ kept d) (plays : q ≡ playing k) where
-  pub run-within : (c : ℕ) (s ls : List ℕ) → 0 < c → kept d .position + c ≤ period → c ≤ length s → ls ≡ wave q (k .position) (length (take c s))
-      → (dacOf ((k .position + c) % period) (k .held) (k .completed) q ≡ afterClocks c d) × (ls ++ drop c s ≡ over (levelsOf c d) s)
-  run-within c s ls some fits room e =
-      let f : ls ≡ levelsOf c d = e ∙ rw (length-take-le c s room, plays, is) (sym (levels-within c d fits)) in
-      (rw (plays, is) (sym (after-within c d some fits)), over-levels c d s ls f)
+  pub run-within : (c written : ℕ) → written ≡ c → (s ls : List ℕ) → 0 < c → kept d .position + c ≤ period → c ≤ length s
+      → ls ≡ wave q (k .position) (length (take written s))
+      → (dacOf ((k .position + c) % period) (k .held) (k .completed) q ≡ afterClocks c d) × (ls ++ drop written s ≡ over (levelsOf c d) s)
+  run-within c written all s ls some fits room e =
+      let f : ls ≡ levelsOf c d = e ∙ rw (all, length-take-le c s room, plays, is) (sym (levels-within c d fits)) in
+      (rw (plays, is) (sym (after-within c d some fits)), rw all (over-levels c d s ls f))
 
   -- and one that goes on in the next, after the clocks that are left
   module _ (c left : ℕ) (rest : left ≡ period - k .position) (past : left < c) (most : c ≤ period) where
@@ -252,16 +253,17 @@ module _ (d k : Dac) (q : Pair) (is : k ≡ kept d) (plays : q ≡ playing k) wh
     unfolding next
     next-levels = levels-within (c - left) next (omega arith) ∙ ap (λ (p : Pair). wave p 0 (c - left)) loaded
 
-    next-after : afterClocks (c - left) next ≡ dacOf (c - left) (kept d .held) (kept d .completed) (kept d .completed)
+    next-after : afterClocks (c - left) next ≡ dacOf ((kept d .position + c) % period) (kept d .held) (kept d .completed) (kept d .completed)
     unfolding next
     next-after =
-        let z : (0 % period + (c - left)) % period ≡ c - left = omega (arith, position-small d k is) in
+        let p : k .position ≡ kept d .position = ap (λ (x : Dac). x .position) is in
+        let z : (0 % period + (c - left)) % period ≡ (kept d .position + c) % period = omega arith in
         after-within (c - left) next (omega arith) (omega arith)
         ∙ (λ i. dacOf (z i) (keptPair-kept (d .held) i) (keptPair-kept (d .completed) i) (loaded i))
 
     pub run-across : (s ls ms : List ℕ) → c ≤ length s → ls ≡ wave q (k .position) (length (take left s))
         → ms ≡ wave (k .completed) 0 (length (take (c - left) (drop left (ls ++ drop left s))))
-        → (dacOf (c - left) (k .held) (k .completed) (k .completed) ≡ afterClocks c d)
+        → (dacOf ((k .position + c) % period) (k .held) (k .completed) (k .completed) ≡ afterClocks c d)
         × (take left (ls ++ drop left s) ++ (ms ++ drop (c - left) (drop left (ls ++ drop left s))) ≡ over (levelsOf c d) s)
     run-across s ls ms room e f =
         let whole : left + (c - left) ≡ c = omega arith in
@@ -272,7 +274,7 @@ module _ (d k : Dac) (q : Pair) (is : k ≡ kept d) (plays : q ≡ playing k) wh
         let m : length (take (c - left) (drop left s)) ≡ c - left = length-take-le (c - left) (drop left s) (omega (arith, length-drop left s)) in
         let b : ms ≡ levelsOf (c - left) (afterClocks left d) = f ∙ rw (behind ls (drop left s) left (c - left) l, m, is, at-end) (sym next-levels) in
         let all : ls ++ ms ≡ levelsOf c d = ap₂ (λ (x y : List ℕ). x ++ y) a b ∙ sym (levels-split left (c - left) d) ∙ ap (λ (n : ℕ). levelsOf n d) whole in
-        let r : afterClocks c d ≡ dacOf (c - left) (kept d .held) (kept d .completed) (kept d .completed) =
+        let r : afterClocks c d ≡ dacOf ((kept d .position + c) % period) (kept d .held) (kept d .completed) (kept d .completed) =
         ap (λ (n : ℕ). afterClocks n d) (sym whole) ∙ after-split left (c - left) d ∙ ap (λ (x : Dac). afterClocks (c - left) x) at-end ∙ next-after in (
           rw is (sym r),
           put-behind ls (drop left s) left (c - left) l ms ∙ rw (drop-drop, whole) (sym (append-assoc ls ms (drop c s)) ∙ over-levels c d s (ls ++ ms) all),

@@ -120,16 +120,15 @@ fn run(dac: Dac, count: usize, levels: &mut [u8]) -> Dac
     let position = after.position as usize;
     let left = PERIOD - position;
     let pair = playing(after);
+    let first = least(count, left);
+    lay(&mut levels[..first], pair, position);
+    after.position = ((position + count) % PERIOD) as u16;
     if count <= left {
-        lay(&mut levels[..count], pair, position);
-        after.position = ((position + count) % PERIOD) as u16;
         after.in_force = pair;
         return after;
     }
-    lay(&mut levels[..left], pair, position);
     let next = after.completed;
-    lay(&mut levels[left..count], next, 0);
-    after.position = (count - left) as u16;
+    lay(&mut levels[first..count], next, 0);
     after.in_force = next;
     after
 }
