@@ -80,6 +80,9 @@ inside k j hk hj =
     omega (arith, mul-suc (2 ^ k) j)
 
 module _ (q : Pair) (coarse-fits : q .coarse < halves) (fine-fits : q .fine < halves) where
+  exact : highs (wave q 0 period) ≡ highClocks q
+  exact = omega (arith, sub-periods q coarse-fits 0 subPeriods, added-all (q .fine) fine-fits)
+
   -- what a run has, and what is asked for it
   in-run : (k j : ℕ) → k < 7 → j < 2 ^ (7 - k) → highs (runOf (2 ^ k) j (wave q 0 period)) ≡ 2 ^ k * q .coarse + addedTo (q .fine) (2 ^ k * j) (2 ^ k)
   in-run k j hk hj = ap highs (part q (subPeriod * (2 ^ k * j)) (subPeriod * 2 ^ k) period (inside k j hk hj)) ∙ sub-periods q coarse-fits (2 ^ k * j) (2 ^ k)
@@ -90,7 +93,7 @@ module _ (q : Pair) (coarse-fits : q .coarse < halves) (fine-fits : q .fine < ha
   pub shares : Shares (highClocks q) (wave q 0 period)
   shares = record {
     long = length-wave q 0 period;
-    exact = omega (arith, sub-periods q coarse-fits 0 subPeriods, added-all (q .fine) fine-fits);
+    exact = exact;
     below = λ k j hk hj. omega (arith, in-run k j hk hj, asked (2 ^ k), run-below (q .fine) fine-fits k j hk hj);
     above = λ k j hk hj. omega (arith, in-run k j hk hj, asked (2 ^ k), run-above (q .fine) fine-fits k j hk hj);
   }
@@ -98,7 +101,7 @@ module _ (q : Pair) (coarse-fits : q .coarse < halves) (fine-fits : q .fine < ha
 -- Pairs that put out the same period are the same pair: both halves agree.
 pub one-pair : (p q : Pair) → p .coarse < halves → p .fine < halves → q .coarse < halves → q .fine < halves → wave p 0 period ≡ wave q 0 period → p ≡ q
 one-pair p q pc pf qc qf e =
-    let same : highClocks p ≡ highClocks q = sym (shares p pc pf .exact) ∙ ap highs e ∙ shares q qc qf .exact in
+    let same : highClocks p ≡ highClocks q = sym (exact p pc pf) ∙ ap highs e ∙ exact q qc qf in
     let c : p .coarse ≡ q .coarse = omega arith in
     let f : p .fine ≡ q .fine = omega arith in
     λ i. record { coarse = c i; fine = f i }

@@ -145,7 +145,7 @@ low-small (cleared ∷ h) = omega arith
 pair-small : (h : List Moment) → (lastPair h .coarse < halves) × (lastPair h .fine < halves)
 unfolding lastPair
 pair-small [] = (omega arith, omega arith)
-pair-small (wroteLow byte ∷ h) = pair-small h
+pair-small (wroteLow byte ∷ h) = (omega (arith, pair-small h .0), omega (arith, pair-small h .1))
 pair-small (wroteHigh byte ∷ h) = (omega arith, low-small h)
 pair-small (clock ∷ h) = pair-small h
 pair-small (cleared ∷ h) = (omega arith, omega arith)
@@ -157,31 +157,29 @@ last-kept h = pair-kept (lastPair h) (pair-small h .0) (pair-small h .1)
 record Known (h : List Moment) (d : Dac) : Type 0 where
   place : kept d .position ≡ since h % period
   held : keptHalf (d .held .fine) ≡ lastLow h
-  made : keptPair (d .completed) ≡ lastPair h
+  coarse : keptHalf (d .completed .coarse) ≡ lastPair h .coarse
+  fine : keptHalf (d .completed .fine) ≡ lastPair h .fine
 
 -- one moment more
 known-wrote-low : (h : List Moment) (d : Dac) (byte : ℕ) → Known h d → Known (wroteLow byte ∷ h) (lowWritten d byte)
 unfolding since lastLow lastPair
-known-wrote-low h d byte k = record { place = omega (arith, k .place); held = omega arith; made = ap keptPair (k .made) ∙ last-kept h }
+known-wrote-low h d byte k = record { place = omega (arith, k .place); held = omega arith; coarse = omega (arith, k .coarse); fine = omega (arith, k .fine) }
 
 known-wrote-high : (h : List Moment) (d : Dac) (byte : ℕ) → Known h d → Known (wroteHigh byte ∷ h) (highWritten d byte)
 unfolding since lastLow lastPair
-known-wrote-high h d byte k =
-    let c : keptHalf (keptHalf byte) ≡ keptHalf byte = omega arith in
-    let f : keptHalf (keptHalf (d .held .fine)) ≡ lastLow h = omega (arith, k .held) in
-    record { place = omega (arith, k .place); held = f; made = ap₂ pair c f }
+known-wrote-high h d byte k = record { place = omega (arith, k .place); held = omega (arith, k .held); coarse = omega arith; fine = omega (arith, k .held) }
 
 known-clock : (h : List Moment) (d : Dac) → Known h d → Known (clock ∷ h) (clocked (kept d))
 unfolding since lastLow lastPair clocked
-known-clock h d k = record { place = omega (arith, k .place); held = omega (arith, k .held); made = ap keptPair (k .made) ∙ last-kept h }
+known-clock h d k = record { place = omega (arith, k .place); held = omega (arith, k .held); coarse = omega (arith, k .coarse); fine = omega (arith, k .fine) }
 
 known : (h : List Moment) → Known h (past h)
 unfolding past act since lastLow lastPair
-known [] = record { place = refl; held = refl; made = refl }
+known [] = record { place = refl; held = refl; coarse = refl; fine = refl }
 known (wroteLow byte ∷ h) = known-wrote-low h (past h) byte (known h)
 known (wroteHigh byte ∷ h) = known-wrote-high h (past h) byte (known h)
 known (clock ∷ h) = known-clock h (past h) (known h)
-known (cleared ∷ h) = record { place = refl; held = refl; made = refl }
+known (cleared ∷ h) = record { place = refl; held = refl; coarse = refl; fine = refl }
 
 -- a clock at position a with the pair q in force
 level-by : (k : Dac) (q : Pair) (a : ℕ) → playing k ≡ q → k .position ≡ a → nextLevel k ≡ level q a
@@ -219,10 +217,10 @@ module _ (es : List Event) (h p rest : List Moment) (P : Period es h p rest) whe
   split = P .whole
 
   at-start : kept (past h) .position ≡ 0
-  at-start = known h .place ∙ P .starts
+  at-start = omega (arith, known h .place, P .starts)
 
   comes-in : playing (kept (past h)) ≡ lastPair h
-  comes-in = first-plays (kept (past h)) at-start ∙ known h .made
+  comes-in = first-plays (kept (past h)) at-start ∙ ap₂ pair (known h .coarse) (known h .fine)
 
   from-first : take (clocks (clock ∷ p)) (sound tail (past h)) ≡ wave (lastPair h) 0 (clocks (clock ∷ p))
   unfolding tail sound clocks wave
