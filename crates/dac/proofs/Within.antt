@@ -83,10 +83,10 @@ as-pulse q a n h = let e : a ≡ subPeriod * (a / subPeriod) + a % subPeriod = o
 
 -- a part written behind the first elements xs: what is lent, and what the whole is after it
 module _ (xs s : List ℕ) (i k : ℕ) (long : length xs ≡ i) where
-  pub behind : take k (drop i (xs ++ s)) ≡ take k s
+  behind : take k (drop i (xs ++ s)) ≡ take k s
   behind = rw (drop-at xs s i long)
 
-  pub put-behind : (ys : List ℕ) → take i (xs ++ s) ++ (ys ++ drop k (drop i (xs ++ s))) ≡ xs ++ (ys ++ drop k s)
+  put-behind : (ys : List ℕ) → take i (xs ++ s) ++ (ys ++ drop k (drop i (xs ++ s))) ≡ xs ++ (ys ++ drop k s)
   put-behind ys = rw (take-at xs s i long, drop-at xs s i long)
 
 -- the bytes of a stretch, from its two fills
@@ -180,7 +180,7 @@ one-moved : (d : Dac) → clocked (kept d) ≡ moved d 1
 unfolding clocked moved
 one-moved d = refl
 
-pub levels-within : (m : ℕ) (d : Dac) → kept d .position + m ≤ period → levelsOf m d ≡ wave (playing (kept d)) (kept d .position) m
+levels-within : (m : ℕ) (d : Dac) → kept d .position + m ≤ period → levelsOf m d ≡ wave (playing (kept d)) (kept d .position) m
 unfolding levelsOf wave
 levels-within zero d h = refl
 levels-within (suc zero) d h = ap (λ (l : ℕ). l ∷ []) (level-next (kept d))
@@ -196,7 +196,7 @@ after-moved (suc n) d h =
     let more : kept d .position + 1 < period = omega arith in
     after-moved n (clocked (kept d)) (omega (arith, position-on d more)) ∙ moved-on d more (suc n)
 
-pub after-within : (m : ℕ) (d : Dac) → 0 < m → kept d .position + m ≤ period
+after-within : (m : ℕ) (d : Dac) → 0 < m → kept d .position + m ≤ period
     → afterClocks m d ≡ dacOf ((kept d .position + m) % period) (kept d .held) (kept d .completed) (playing (kept d))
 unfolding moved
 after-within zero d some h = absurd (omega arith)

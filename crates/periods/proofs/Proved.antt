@@ -15,7 +15,7 @@ use Rattle.dac.specs.declared.Dac.{Dac}
 use Rattle.dac.specs.Wave.{period, subPeriods, pair, bit, added, level, wave}
 use Rattle.dac.specs.Steps.{halves, keptHalf, keptPair, dacOf, kept, nextLevel, clocked, afterClocks, levelsOf}
 use Rattle.dac.specs.Play.{tooMany, afterPlay, levelsPlayed, lentAfter}
-use Rattle.periods.specs.Theorems.{Serves, BothHalves, Joined, Found, Kept}
+use Rattle.periods.specs.Theorems.{Serves, BothHalves, Joined, Found, Keeps}
 use Rattle.dac.proofs.Within.{pair-kept, keptPair-kept, playing-kept, length-levels, levels-split, after-split}
 use Rattle.dac.proofs.Answers.{may, refused-play, accepted-play}
 use Rattle.periods.proofs.Count.{one-pair}
@@ -112,7 +112,7 @@ unfolding afterClocks
 stays-kept zero d = clocked-kept d
 stays-kept (suc c) d = stays-kept c (clocked (kept d))
 
-pub keeps : Kept
+pub keeps : Keeps
 keeps d byte c =
     let low = pair-kept (pair (keptHalf (d .held .coarse)) (keptHalf byte)) (omega arith) (omega arith) in
     let made = pair-kept (pair (keptHalf byte) (keptHalf (d .held .fine))) (omega arith) (omega arith) in

@@ -39,8 +39,8 @@ Found =
     × (tooMany c (length lent) ≡ true → (levelsPlayed d c (length lent) ≡ []) × (lentAfter d c lent ≡ lent))
 
 -- A record that the host made up is used by its kept form, and a write or a clock leaves kept values only.
-abbrev pub Kept : Type 0
-Kept =
+abbrev pub Keeps : Type 0
+Keeps =
     (d : Dac) (byte c : ℕ)
     → (lowWritten (kept d) byte ≡ lowWritten d byte) × (kept (lowWritten d byte) ≡ lowWritten d byte)
     × (highWritten (kept d) byte ≡ highWritten d byte) × (kept (highWritten d byte) ≡ highWritten d byte)
