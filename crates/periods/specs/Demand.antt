@@ -112,6 +112,7 @@ pub record Period (es : List Event) (h p rest : List Moment) : Type 0 where
 abbrev pub heard : List Event → List Moment → List ℕ
 heard es h = take period (drop (clocks h) (output es afterReset))
 
+-- how many of some levels are high
 unfoldable pub highs : List ℕ → ℕ
 highs [] = 0
 highs (b ∷ bs) = pick (eqb b 1) 1 0 + highs bs
