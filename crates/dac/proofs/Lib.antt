@@ -1,7 +1,4 @@
 pub mod Answers
-pub mod Count
 pub mod Fine
-pub mod Proved
-pub mod Stream
 pub mod Unique
 pub mod Within

@@ -14,10 +14,10 @@ use borrow.Author.Tests.{ltb-true, ltb-false, eq-eqb, ne-eqb}
 use Rattle.laws.specs.Pick.{pick}
 use Rattle.dac.specs.declared.Pair.{Pair}
 use Rattle.dac.specs.declared.Dac.{Dac}
-use Rattle.dac.specs.Wave.{period, added, level}
-use Rattle.dac.specs.Steps.{keptPair, dacOf, kept, playing, nextLevel, clocked, afterClocks, levelsOf}
+use Rattle.dac.specs.Wave.{period, subPeriod, added, level, wave}
+use Rattle.dac.specs.Steps.{halves, keptPair, dacOf, kept, playing, nextLevel, clocked, afterClocks, levelsOf}
 use Rattle.dac.specs.Play.{over}
-use Rattle.dac.specs.Stretch.{wave, pulse}
+use Rattle.dac.specs.Stretch.{pulse}
 
 pub length-wave : (q : Pair) (a n : ℕ) → length (wave q a n) ≡ n
 unfolding wave
@@ -61,32 +61,32 @@ no-pulse i x =
     let b : 0 - (x - i) ≡ 0 = omega arith in
     rw (a, b)
 
-level-at : (q : Pair) (s i : ℕ) → i < 128 → level q (128 * s + i) ≡ pick (ltb i (q .coarse + added (q .fine) s)) 1 0
+level-at : (q : Pair) (s i : ℕ) → i < subPeriod → level q (subPeriod * s + i) ≡ pick (ltb i (q .coarse + added (q .fine) s)) 1 0
 unfolding level
 level-at q s i h =
-    let a : (128 * s + i) % 128 ≡ i = omega arith in
-    let b : (128 * s + i) / 128 ≡ s = omega arith in
+    let a : (subPeriod * s + i) % subPeriod ≡ i = omega arith in
+    let b : (subPeriod * s + i) / subPeriod ≡ s = omega arith in
     rw (a, b)
 
 -- the clocks of sub-period s from its i-th on
-pub within-sub : (q : Pair) (s n i : ℕ) → i + n ≤ 128 → wave q (128 * s + i) n ≡ pulse i (q .coarse + added (q .fine) s) n
+pub within-sub : (q : Pair) (s n i : ℕ) → i + n ≤ subPeriod → wave q (subPeriod * s + i) n ≡ pulse i (q .coarse + added (q .fine) s) n
 unfolding wave
 within-sub q s zero i h = no-pulse i (q .coarse + added (q .fine) s)
 within-sub q s (suc n) i h =
     let x : ℕ = q .coarse + added (q .fine) s in
-    let rest : wave q (suc (128 * s + i)) n ≡ pulse (suc i) x n = rw (← add-suc) (within-sub q s n (suc i) (omega arith)) in
+    let rest : wave q (suc (subPeriod * s + i)) n ≡ pulse (suc i) x n = rw (← add-suc) (within-sub q s n (suc i) (omega arith)) in
     ap₂ (λ (l : ℕ) (ls : List ℕ). l ∷ ls) (level-at q s i (omega arith)) rest ∙ one-clock i x n
 
 -- the same by the position a of the first of them
-pub as-pulse : (q : Pair) (a n : ℕ) → a % 128 + n ≤ 128 → wave q a n ≡ pulse (a % 128) (q .coarse + added (q .fine) (a / 128)) n
-as-pulse q a n h = let e : a ≡ 128 * (a / 128) + a % 128 = omega arith in ap (λ (p : ℕ). wave q p n) e ∙ within-sub q (a / 128) n (a % 128) h
+pub as-pulse : (q : Pair) (a n : ℕ) → a % subPeriod + n ≤ subPeriod → wave q a n ≡ pulse (a % subPeriod) (q .coarse + added (q .fine) (a / subPeriod)) n
+as-pulse q a n h = let e : a ≡ subPeriod * (a / subPeriod) + a % subPeriod = omega arith in ap (λ (p : ℕ). wave q p n) e ∙ within-sub q (a / subPeriod) n (a % subPeriod) h
 
 -- a part written behind the first elements xs: what is lent, and what the whole is after it
 module _ (xs s : List ℕ) (i k : ℕ) (long : length xs ≡ i) where
-  pub behind : take k (drop i (xs ++ s)) ≡ take k s
+  behind : take k (drop i (xs ++ s)) ≡ take k s
   behind = rw (drop-at xs s i long)
 
-  pub put-behind : (ys : List ℕ) → take i (xs ++ s) ++ (ys ++ drop k (drop i (xs ++ s))) ≡ xs ++ (ys ++ drop k s)
+  put-behind : (ys : List ℕ) → take i (xs ++ s) ++ (ys ++ drop k (drop i (xs ++ s))) ≡ xs ++ (ys ++ drop k s)
   put-behind ys = rw (take-at xs s i long, drop-at xs s i long)
 
 -- the bytes of a stretch, from its two fills
@@ -100,15 +100,19 @@ module _ (s high low : List ℕ) (i x t : ℕ) (turns : t ≡ min (x - i) (lengt
   left : length (high ++ drop t s) - t ≡ length s - t
   left = omega (arith, length-append high (drop t s), length-drop t s, long-high)
 
+  then-low : length (take (length s - t) (drop t s)) ≡ length s - (x - i)
+  then-low = omega (arith, length-take-le (length s - t) (drop t s) (omega (arith, length-drop t s)))
+
+  none-left : drop (length s - t) (drop t s) ≡ []
+  none-left = let whole : t + (length s - t) ≡ length s = omega arith in rw (drop-drop, whole) (drop-length s)
+
   pub filled : low ≡ replicate (length (take (length (high ++ drop t s) - t) (drop t (high ++ drop t s)))) 0
       → take t (high ++ drop t s) ++ (low ++ drop (length (high ++ drop t s) - t) (drop t (high ++ drop t s))) ≡ pulse i x (length s)
   unfolding pulse
   filled f =
-      let whole : t + (length s - t) ≡ length s = omega arith in
-      let a : length (take (length s - t) (drop t s)) ≡ length s - (x - i) = omega (arith, length-take-le (length s - t) (drop t s) (omega (arith, length-drop t s))) in
-      let b : low ≡ replicate (length s - (x - i)) 0 = f ∙ rw (left, behind high (drop t s) t (length s - t) long-high, a) in
+      let low-is : low ≡ replicate (length s - (x - i)) 0 = f ∙ rw (left, behind high (drop t s) t (length s - t) long-high, then-low) in
       put-behind high (drop t s) t (length (high ++ drop t s) - t) long-high low
-      ∙ rw (left, drop-drop, whole, drop-length s) (ap₂ (λ (h l : List ℕ). h ++ l) (high-is ∙ ap (λ (n : ℕ). replicate n 1) turns) (append-nil low ∙ b))
+      ∙ rw (left, none-left, append-nil low, low-is, high-is, ← turns)
 
 -- the bytes of a wave so far, when the next stretch has come to its end e
 module _ (q : Pair) (from i e : ℕ) (s ys : List ℕ) (on : i ≤ e) (is : ys ≡ wave q (from + i) (e - i)) where
@@ -123,10 +127,10 @@ pub length-laid : (q : Pair) (from i : ℕ) (s : List ℕ) → i ≤ length s �
 length-laid q from i s h = omega (arith, length-append (wave q from i) (drop i s), length-drop i s, length-wave q from i)
 
 -- Kept values are kept as they are.
-pub pair-kept : (q : Pair) → q .coarse < 128 → q .fine < 128 → keptPair q ≡ q
+pub pair-kept : (q : Pair) → q .coarse < halves → q .fine < halves → keptPair q ≡ q
 pair-kept q hc hf =
-    let a : q .coarse % 128 ≡ q .coarse = omega arith in
-    let b : q .fine % 128 ≡ q .fine = omega arith in
+    let a : q .coarse % halves ≡ q .coarse = omega arith in
+    let b : q .fine % halves ≡ q .fine = omega arith in
     rw (a, b)
 
 pub keptPair-kept : (q : Pair) → keptPair (keptPair q) ≡ keptPair q
@@ -176,7 +180,7 @@ one-moved : (d : Dac) → clocked (kept d) ≡ moved d 1
 unfolding clocked moved
 one-moved d = refl
 
-pub levels-within : (m : ℕ) (d : Dac) → kept d .position + m ≤ period → levelsOf m d ≡ wave (playing (kept d)) (kept d .position) m
+levels-within : (m : ℕ) (d : Dac) → kept d .position + m ≤ period → levelsOf m d ≡ wave (playing (kept d)) (kept d .position) m
 unfolding levelsOf wave
 levels-within zero d h = refl
 levels-within (suc zero) d h = ap (λ (l : ℕ). l ∷ []) (level-next (kept d))
@@ -192,7 +196,7 @@ after-moved (suc n) d h =
     let more : kept d .position + 1 < period = omega arith in
     after-moved n (clocked (kept d)) (omega (arith, position-on d more)) ∙ moved-on d more (suc n)
 
-pub after-within : (m : ℕ) (d : Dac) → 0 < m → kept d .position + m ≤ period
+after-within : (m : ℕ) (d : Dac) → 0 < m → kept d .position + m ≤ period
     → afterClocks m d ≡ dacOf ((kept d .position + m) % period) (kept d .held) (kept d .completed) (playing (kept d))
 unfolding moved
 after-within zero d some h = absurd (omega arith)
@@ -222,11 +226,12 @@ position-small d k is = let p : k .position ≡ kept d .position = ap (λ (x : D
 
 -- What `run` finds for a record: its kept form k, and the pair q by which the next clock is played. A play that ends within the period under way:
 module _ (d k : Dac) (q : Pair) (is : k ≡ kept d) (plays : q ≡ playing k) where
-  pub run-within : (c : ℕ) (s ls : List ℕ) → 0 < c → kept d .position + c ≤ period → c ≤ length s → ls ≡ wave q (k .position) (length (take c s))
-      → (dacOf ((k .position + c) % period) (k .held) (k .completed) q ≡ afterClocks c d) × (ls ++ drop c s ≡ over (levelsOf c d) s)
-  run-within c s ls some fits room e =
-      let f : ls ≡ levelsOf c d = e ∙ rw (length-take-le c s room, plays, is) (sym (levels-within c d fits)) in
-      (rw (plays, is) (sym (after-within c d some fits)), over-levels c d s ls f)
+  pub run-within : (c written : ℕ) → written ≡ c → (s ls : List ℕ) → 0 < c → kept d .position + c ≤ period → c ≤ length s
+      → ls ≡ wave q (k .position) (length (take written s))
+      → (dacOf ((k .position + c) % period) (k .held) (k .completed) q ≡ afterClocks c d) × (ls ++ drop written s ≡ over (levelsOf c d) s)
+  run-within c written all s ls some fits room e =
+      let f : ls ≡ levelsOf c d = e ∙ rw (all, length-take-le c s room, plays, is) (sym (levels-within c d fits)) in
+      (rw (plays, is) (sym (after-within c d some fits)), rw all (over-levels c d s ls f))
 
   -- and one that goes on in the next, after the clocks that are left
   module _ (c left : ℕ) (rest : left ≡ period - k .position) (past : left < c) (most : c ≤ period) where
@@ -248,16 +253,17 @@ module _ (d k : Dac) (q : Pair) (is : k ≡ kept d) (plays : q ≡ playing k) wh
     unfolding next
     next-levels = levels-within (c - left) next (omega arith) ∙ ap (λ (p : Pair). wave p 0 (c - left)) loaded
 
-    next-after : afterClocks (c - left) next ≡ dacOf (c - left) (kept d .held) (kept d .completed) (kept d .completed)
+    next-after : afterClocks (c - left) next ≡ dacOf ((kept d .position + c) % period) (kept d .held) (kept d .completed) (kept d .completed)
     unfolding next
     next-after =
-        let z : (0 % period + (c - left)) % period ≡ c - left = omega (arith, position-small d k is) in
+        let p : k .position ≡ kept d .position = ap (λ (x : Dac). x .position) is in
+        let z : (0 % period + (c - left)) % period ≡ (kept d .position + c) % period = omega arith in
         after-within (c - left) next (omega arith) (omega arith)
         ∙ (λ i. dacOf (z i) (keptPair-kept (d .held) i) (keptPair-kept (d .completed) i) (loaded i))
 
     pub run-across : (s ls ms : List ℕ) → c ≤ length s → ls ≡ wave q (k .position) (length (take left s))
         → ms ≡ wave (k .completed) 0 (length (take (c - left) (drop left (ls ++ drop left s))))
-        → (dacOf (c - left) (k .held) (k .completed) (k .completed) ≡ afterClocks c d)
+        → (dacOf ((k .position + c) % period) (k .held) (k .completed) (k .completed) ≡ afterClocks c d)
         × (take left (ls ++ drop left s) ++ (ms ++ drop (c - left) (drop left (ls ++ drop left s))) ≡ over (levelsOf c d) s)
     run-across s ls ms room e f =
         let whole : left + (c - left) ≡ c = omega arith in
@@ -268,7 +274,7 @@ module _ (d k : Dac) (q : Pair) (is : k ≡ kept d) (plays : q ≡ playing k) wh
         let m : length (take (c - left) (drop left s)) ≡ c - left = length-take-le (c - left) (drop left s) (omega (arith, length-drop left s)) in
         let b : ms ≡ levelsOf (c - left) (afterClocks left d) = f ∙ rw (behind ls (drop left s) left (c - left) l, m, is, at-end) (sym next-levels) in
         let all : ls ++ ms ≡ levelsOf c d = ap₂ (λ (x y : List ℕ). x ++ y) a b ∙ sym (levels-split left (c - left) d) ∙ ap (λ (n : ℕ). levelsOf n d) whole in
-        let r : afterClocks c d ≡ dacOf (c - left) (kept d .held) (kept d .completed) (kept d .completed) =
+        let r : afterClocks c d ≡ dacOf ((kept d .position + c) % period) (kept d .held) (kept d .completed) (kept d .completed) =
         ap (λ (n : ℕ). afterClocks n d) (sym whole) ∙ after-split left (c - left) d ∙ ap (λ (x : Dac). afterClocks (c - left) x) at-end ∙ next-after in (
           rw is (sym r),
           put-behind ls (drop left s) left (c - left) l ms ∙ rw (drop-drop, whole) (sym (append-assoc ls ms (drop c s)) ∙ over-levels c d s (ls ++ ms) all),

@@ -9,9 +9,12 @@ use Rattle.dac.specs.declared.Pair.{Pair}
 use Rattle.dac.specs.declared.Dac.{Dac}
 use Rattle.dac.specs.Wave.{period, pair, level}
 
--- the 7 bits that a register keeps
+-- how many halves there are: a register keeps 7 bits
+abbrev pub halves : ℕ
+halves = 128
+
 abbrev pub keptHalf : ℕ → ℕ
-keptHalf byte = byte % 128
+keptHalf byte = byte % halves
 
 abbrev pub keptPair : Pair → Pair
 keptPair q = pair (keptHalf (q .coarse)) (keptHalf (q .fine))

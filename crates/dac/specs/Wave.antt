@@ -2,7 +2,8 @@
 -- A period is 16,384 positions, 128 sub-periods of 128 clocks each. A sub-period starts high for as many clocks as the coarse half says,
 -- or for one more if the fine half adds one to it, and is low from there on.
 -- Assumes nothing.
-use Prim.Native.Nat.{ℕ, _+_, _-_, _*_, _/_, _%_, _^_}
+use Prim.Native.Nat.{ℕ, zero, suc, _+_, _-_, _/_, _%_, _^_}
+use mathlib.Core.List.{List, [], _∷_}
 use lib.Dec.{ltb, eqb}
 use lib.Count.{trailingZeros}
 use Rattle.laws.specs.Pick.{pick}
@@ -15,12 +16,12 @@ period = 16384
 abbrev pub subPeriod : ℕ
 subPeriod = 128
 
+-- how many of them a period has
+abbrev pub subPeriods : ℕ
+subPeriods = 128
+
 abbrev pub pair : ℕ → ℕ → Pair
 pair c f = record { coarse = c; fine = f }
-
--- T: how many clocks of a period the pair asks for
-abbrev pub total : Pair → ℕ
-total q = 128 * q .coarse + q .fine
 
 -- bit b of the number x
 abbrev pub bit : ℕ → ℕ → ℕ
@@ -34,3 +35,8 @@ added fine n = pick (eqb n 0) 0 (bit fine (6 - trailingZeros 7 n))
 -- The level at a position, 1 for high: position p is clock p % 128 of sub-period p / 128.
 unfoldable pub level : Pair → ℕ → ℕ
 level q p = pick (ltb (p % subPeriod) (q .coarse + added (q .fine) (p / subPeriod))) 1 0
+
+-- the n levels from position a on, while the pair q is in force
+unfoldable pub wave : Pair → ℕ → ℕ → List ℕ
+wave q a zero = []
+wave q a (suc n) = level q a ∷ wave q (suc a) n

@@ -2,11 +2,11 @@
 // made; a play of no clocks and a refused play give it back as it came, every other call gives back kept values only.
 ghost use mathlib.Core.Path.{_≡_};
 ghost use Prim.Native.Nat.{_+_, _-_, _<_, _≤_, min};
-ghost use lib.ListN.{length, replicate};
-ghost use Rattle.dac.specs.Wave.{period, added as addedOf};
+ghost use lib.ListN.{length};
+ghost use Rattle.dac.specs.Wave.{period, subPeriods, added as addedOf, wave};
 ghost use Rattle.dac.specs.Steps.{keptPair, kept as keptOf, afterReset, lowWritten, highWritten, playing as playingOf, afterClocks, levelsOf};
 ghost use Rattle.dac.specs.Play.{answerOf, afterPlay, lentAfter, over, said};
-ghost use Rattle.dac.specs.Stretch.{wave, pulse};
+ghost use Rattle.dac.specs.Stretch.{pulse};
 
 // In clocks.
 const PERIOD: usize = 16384;
@@ -120,16 +120,15 @@ fn run(dac: Dac, count: usize, levels: &mut [u8]) -> Dac
     let position = after.position as usize;
     let left = PERIOD - position;
     let pair = playing(after);
+    let first = least(count, left);
+    lay(&mut levels[..first], pair, position);
+    after.position = ((position + count) % PERIOD) as u16;
     if count <= left {
-        lay(&mut levels[..count], pair, position);
-        after.position = ((position + count) % PERIOD) as u16;
         after.in_force = pair;
         return after;
     }
-    lay(&mut levels[..left], pair, position);
     let next = after.completed;
-    lay(&mut levels[left..count], next, 0);
-    after.position = (count - left) as u16;
+    lay(&mut levels[first..count], next, 0);
     after.in_force = next;
     after
 }
@@ -197,7 +196,7 @@ fn stretch(levels: &mut [u8], clock: usize, high: usize)
 
 // The clock that a fine half adds to sub-period n.
 fn added(fine: u8, n: usize) -> u8
-    requires { ⌜ n < 128 ⌝ }
+    requires { ⌜ n < subPeriods ⌝ }
     ensures { λ r. ⌜ r ≡ addedOf fine n ⌝ }
 {
     if n % 2 != 0 {

@@ -3,19 +3,27 @@
 -- period, its output is high. A clock is named by its place t in the period.
 -- Assumes nothing.
 use Prim.Native.Nat.{ℕ, _%_, _^_}
+use mathlib.Core.Bool.{Bool}
 use lib.Dec.{leb, ltb}
 use Rattle.laws.specs.Pick.{pick}
 use Rattle.laws.specs.Said.{Said, accepted, refused}
 use Rattle.pulse.specs.declared.Level.{Level}
 use Rattle.pulse.specs.declared.Level.the-variants.{Low, High, NoSuchClock}
 
--- how many bits channels 0 to 3, and 4 to 7, keep
-abbrev pub bitsOf : ℕ → ℕ
-bitsOf channel = pick (leb channel 3) 7 6
+-- There are channels 0 to 7, of which 0 to 3 are the wider ones.
+abbrev pub lastChannel : ℕ
+lastChannel = 7
 
--- their periods in clocks
+abbrev pub isWider : ℕ → Bool
+isWider channel = leb channel 3
+
+-- how many bits a channel keeps
+abbrev pub bitsOf : ℕ → ℕ
+bitsOf channel = pick (isWider channel) 7 6
+
+-- its period in clocks
 unfoldable pub periodOf : ℕ → ℕ
-periodOf channel = pick (leb channel 3) 128 64
+periodOf channel = pick (isWider channel) 128 64
 
 -- the number that a channel keeps of a byte
 unfoldable pub keptOf : ℕ → ℕ → ℕ
@@ -28,7 +36,7 @@ levelOf channel byte t = pick (ltb t (keptOf channel byte)) 1 0
 -- what the call answers: number 15 for a channel above 7 and for a clock outside the channel's period, else the level
 unfoldable pub answerOf : ℕ → ℕ → ℕ → Said
 answerOf channel byte t =
-    pick (ltb 7 channel) (refused 15 0) (pick (leb (periodOf channel) t) (refused 15 0) (accepted (levelOf channel byte t)))
+    pick (ltb lastChannel channel) (refused 15 0) (pick (leb (periodOf channel) t) (refused 15 0) (accepted (levelOf channel byte t)))
 
 -- document 01's number, place and level for each case
 abbrev pub said : Level → Said

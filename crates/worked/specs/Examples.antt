@@ -8,7 +8,8 @@ use mathlib.Core.List.{List, [], _∷_, map}
 use lib.Dec.{eqb}
 use lib.Count.{trailingZeros}
 use Rattle.laws.specs.Pick.{pick}
-use Rattle.dac.specs.Wave.{pair, total, added, level, subPeriod}
+use Rattle.dac.specs.Wave.{subPeriod, subPeriods, pair, added, level, wave}
+use Rattle.periods.specs.Demand.{highs, highClocks}
 use Rattle.display.specs.declared.Kind.{Kind}
 use Rattle.display.specs.declared.Kind.the-variants.{Character, Space, Return, End}
 use Rattle.display.specs.Words.{kindOf}
@@ -41,18 +42,13 @@ unfolding added trailingZeros
 served fine m zero = []
 served fine m (suc n) = let later = served fine (suc m) n in pick (eqb (added fine m) 1) (m ∷ later) later
 
--- the high clocks among n from position p on
-unfoldable pub highs : ℕ → ℕ → ℕ → ℕ → ℕ
-unfolding level added trailingZeros
-highs coarse fine p zero = 0
-highs coarse fine p (suc n) = level (pair coarse fine) p + highs coarse fine (suc p) n
-
 unfoldable pub answer : Question → List ℕ
-unfolding kindOf served highs
+unfolding kindOf served highs wave level added trailingZeros
 answer (word w) = values (kindOf w)
-answer (addsTo fine) = served fine 0 128
+answer (addsTo fine) = served fine 0 subPeriods
 answer (highIn coarse fine first count) =
-    total (pair coarse fine) ∷ highs coarse fine (subPeriod * first) (subPeriod * count) ∷ count * total (pair coarse fine) ∷ []
+    let q = pair coarse fine in
+    highClocks q ∷ highs (wave q (subPeriod * first) (subPeriod * count)) ∷ count * highClocks q ∷ []
 answer (lit ratio frequency frames) = map (λ (frame : ℕ). number (litIn ratio frequency frame)) frames
 
 pub record Example : Type 0 where

@@ -1,6 +1,9 @@
 -- `dac::kept` meets its contract.
 -- Assumes nothing.
+use Prim.Native.Nat.{_%_}
 use borrow.Author.Needs.{needs}
+use Rattle.dac.specs.Wave.{period}
+use Rattle.dac.specs.Steps.{dacOf}
 use Rattle.dac.proofs.kept.Statement.{statement}
 use Rattle.dac.proofs.kept.Tie as tie
 
@@ -20,7 +23,9 @@ cast-t7 : tie.Need-cast-t7
 cast-t7 c = search needs
 
 returns : tie.Need-returns
-returns c = cc
+returns c =
+    let p = c .before .before .before in
+    λ i. dacOf (p .before .args .dac .position % period) (p .kept-pair .ensures i) (c .before .before .kept-pair2 .ensures i) (c .before .kept-pair3 .ensures i)
 
 pub kept-spec : {M : Type 1} → statement M
 kept-spec = tie.close (tie.spec kept-pair-requires kept-pair-requires-2 kept-pair-requires-3 cast-t5 cast-t7 returns)

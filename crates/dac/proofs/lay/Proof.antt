@@ -7,8 +7,7 @@ use native.Mathlib.Omega.{arith}
 use borrow.Author.Needs.{needs}
 use lib.ListN.{length, take, drop, length-drop}
 use lib.Seq.{drop-length, length-take-le}
-use Rattle.dac.specs.Wave.{pair}
-use Rattle.dac.specs.Stretch.{wave}
+use Rattle.dac.specs.Wave.{pair, wave}
 use Rattle.dac.proofs.Within.{laid, length-laid, as-pulse}
 use Rattle.dac.proofs.lay.Statement.{statement}
 use Rattle.dac.proofs.lay.Tie as tie

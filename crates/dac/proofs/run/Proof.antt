@@ -2,7 +2,7 @@
 -- wave of the completed pair.
 -- Assumes nothing.
 use Prim.Native.Nat.{ℕ, _-_}
-use mathlib.Core.Path.{_≡_, refl, ap, sym}
+use mathlib.Core.Path.{_≡_, ap, sym}
 use native.Mathlib.Omega.{arith}
 use borrow.Author.Needs.{needs}
 use lib.Seq.{length-take-le}
@@ -33,6 +33,9 @@ sub-left c = omega (arith, position-small _ _ (c .before .kept .ensures))
 playing-requires : tie.Need-playing-requires
 playing-requires c κs = search needs
 
+least-requires : tie.Need-least-requires
+least-requires c κs = search needs
+
 slice-relend-prefix-lay : tie.Need-slice-relend-prefix-lay
 slice-relend-prefix-lay c = search needs
 
@@ -43,7 +46,7 @@ lay-requires : tie.Need-lay-requires
 lay-requires c κs =
     let k = c .before .before .before .before in
     let a = k .before .before .before .args in
-    omega (arith, length-take-le (a .count) (a .levels .now) (omega arith), position-small _ _ (k .kept .ensures))
+    omega (arith, length-take-le (c .before .least .result) (a .levels .now) (omega arith), position-small _ _ (k .kept .ensures))
 
 add-after : tie.Need-add-after
 add-after c = search needs
@@ -56,22 +59,12 @@ same-length c = search needs
 
 returns-2 : tie.Need-returns-2
 returns-2 c =
-    let k = c .before .before .before .before .before .before .before in
+    let k = c .before .before .before .before .before .before .before .before in
     let a = k .before .before .before .args in
-    run-within (a .dac) (k .kept .result) _ (k .kept .ensures) (c .before .before .before .before .before .playing .ensures) (a .count) (a .levels .now) _
-    (omega arith) (omega (arith, ap (λ (x : Dac). x .position) (k .kept .ensures))) (omega arith) (c .before .before .lay .ensures)
-
-slice-relend-prefix-lay-2 : tie.Need-slice-relend-prefix-lay-2
-slice-relend-prefix-lay-2 c = search needs
-
-slice-aggregate-lay-2 : tie.Need-slice-aggregate-lay-2
-slice-aggregate-lay-2 c = let a = c .before .before .before .before .before .before .before .args in sym (length-take-le _ (a .levels .now) (omega arith))
-
-lay-requires-2 : tie.Need-lay-requires-2
-lay-requires-2 c κs =
-    let k = c .before .before .before .before in
-    let a = k .before .before .before .args in
-    omega (arith, length-take-le (period - k .kept .result .position) (a .levels .now) (omega arith), position-small _ _ (k .kept .ensures))
+    let first = c .before .before .before .before .before .least .result in
+    let all : first ≡ a .count = omega arith in
+    run-within (a .dac) (k .kept .result) _ (k .kept .ensures) (c .before .before .before .before .before .before .playing .ensures) (a .count) first all (a .levels .now) _
+    (omega arith) (omega (arith, ap (λ (x : Dac). x .position) (k .kept .ensures))) (omega arith) (c .before .before .before .lay .ensures)
 
 sub-lay : tie.Need-sub-lay
 sub-lay c = search needs
@@ -82,29 +75,25 @@ part-lay-start c = search needs
 part-lay-end : tie.Need-part-lay-end
 part-lay-end c = search needs
 
-lay-requires-3 : tie.Need-lay-requires-3
-lay-requires-3 c κs = search needs
-
-sub-after : tie.Need-sub-after
-sub-after c = search needs
-
-cast-after-2 : tie.Need-cast-after-2
-cast-after-2 c = search needs
+lay-requires-2 : tie.Need-lay-requires-2
+lay-requires-2 c κs = search needs
 
 same-length-2 : tie.Need-same-length-2
 same-length-2 c = search needs
 
 returns-3 : tie.Need-returns-3
 returns-3 c =
-    let k = c .before .before .before .before .before .before .before .before .before .before .before .before in
+    let k = c .before .before .before .before .before .before .before .before .before .before .before .before .before in
     let a = k .before .before .before .args in
-    run-across (a .dac) (k .kept .result) _ (k .kept .ensures) (c .before .before .before .before .before .before .before .before .before .before .playing .ensures)
-    (a .count) (period - k .kept .result .position) refl (omega arith) (omega arith) (a .levels .now) _ _ (omega arith)
-    (c .before .before .before .before .before .before .before .lay2 .ensures) (c .before .before .lay3 .ensures)
+    let first = c .before .before .before .before .before .before .before .before .before .before .least .result in
+    let left : first ≡ period - k .kept .result .position = omega arith in
+    run-across (a .dac) (k .kept .result) _ (k .kept .ensures) (c .before .before .before .before .before .before .before .before .before .before .before .playing .ensures)
+    (a .count) first left (omega arith) (omega arith) (a .levels .now) _ _ (omega arith)
+    (c .before .before .before .before .before .before .before .before .lay .ensures) (c .before .before .lay2 .ensures)
 
 pub run-spec : {M : Type 1} → statement M
 run-spec =
     tie.close
-    (tie.spec returns kept-requires cast-position sub-left playing-requires
+    (tie.spec returns kept-requires cast-position sub-left playing-requires least-requires
     slice-relend-prefix-lay slice-aggregate-lay lay-requires add-after cast-after same-length returns-2
-    slice-relend-prefix-lay-2 slice-aggregate-lay-2 lay-requires-2 sub-lay part-lay-start part-lay-end lay-requires-3 sub-after cast-after-2 same-length-2 returns-3)
+    sub-lay part-lay-start part-lay-end lay-requires-2 same-length-2 returns-3)

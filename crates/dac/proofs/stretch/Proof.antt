@@ -1,7 +1,7 @@
 -- `dac::stretch` meets its contract: the two fills are the two parts of the pulse.
 -- Assumes nothing.
-use Prim.Native.Nat.{_-_, min}
-use mathlib.Core.Path.{_≡_, sym}
+use Prim.Native.Nat.{ℕ, _-_, min}
+use mathlib.Core.Path.{_≡_, ap, sym, _∙_}
 use native.Mathlib.Omega.{arith}
 use borrow.Author.Needs.{needs}
 use lib.ListN.{length}
@@ -46,7 +46,8 @@ returns : tie.Need-returns
 returns c =
     let l = c .before .before .before .before .before .before .before .before in
     let a = l .before .before .before .args in
-    let turns : l .least .result ≡ min (a .high - a .clock) (length (a .levels .now)) = cc in
+    let turns : l .least .result ≡ min (a .high - a .clock) (length (a .levels .now)) =
+    l .least .ensures ∙ ap (λ (n : ℕ). min n (length (a .levels .now))) (l .before .beyond .ensures) in
     filled (a .levels .now) _ _ (a .clock) (a .high) (l .least .result) turns
     (c .before .before .before .before .before .before .fill .ensures) (c .before .before .fill2 .ensures)
 

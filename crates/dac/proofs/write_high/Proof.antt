@@ -1,6 +1,10 @@
 -- `dac::write_high` meets its contract.
 -- Assumes nothing.
+use mathlib.Core.Path.{ap}
 use borrow.Author.Needs.{needs}
+use Rattle.dac.specs.declared.Dac.{Dac}
+use Rattle.dac.specs.Wave.{pair}
+use Rattle.dac.specs.Steps.{keptHalf, dacOf}
 use Rattle.dac.proofs.write_high.Statement.{statement}
 use Rattle.dac.proofs.write_high.Tie as tie
 
@@ -8,7 +12,9 @@ kept-requires : tie.Need-kept-requires
 kept-requires c κs = search needs
 
 returns : tie.Need-returns
-returns c = cc
+returns c =
+    let byte = c .before .args .byte in
+    ap (λ (k : Dac). let made = pair (keptHalf byte) (k .held .fine) in dacOf (k .position) made made (k .in_force)) (c .kept .ensures)
 
 pub write-high-spec : {M : Type 1} → statement M
 write-high-spec = tie.close (tie.spec kept-requires returns)

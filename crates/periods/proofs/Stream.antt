@@ -2,26 +2,24 @@
 -- the history says; so at a period's first clock the last completed pair comes into force, and with no reset it stays to the period's end,
 -- whatever is written. The period's levels are then the wave of that pair, which has the shares asked for.
 -- Assumes nothing.
-use Prim.Native.Nat.{ℕ, zero, suc, _+_, _-_, _%_, _<_, _≤_}
+use Prim.Native.Nat.{ℕ, zero, suc, _+_, _%_, _<_, _≤_}
 use mathlib.Core.Path.{_≡_, refl, subst, sym, ap, ap₂, _∙_}
 use mathlib.Core.Bool.{Bool, true, false, false≢true}
-use mathlib.Core.List.{List, [], _∷_, _++_, append-assoc, reverse, reverseAux, reverse-reverse}
+use mathlib.Core.List.{List, [], _∷_, _++_, reverse, reverseAux, reverse-reverse}
 use native.Mathlib.Nat.{add-zero}
 use native.Mathlib.Omega.{arith}
 use lib.ListN.{length, take, drop, replicate}
 use lib.Seq.{drop-at}
-use borrow.Author.Tests.{le-ltb}
 use Rattle.laws.specs.Pick.{pick}
 use Rattle.dac.specs.declared.Pair.{Pair}
 use Rattle.dac.specs.declared.Dac.{Dac}
-use Rattle.dac.specs.Wave.{period, pair, total, level}
-use Rattle.dac.specs.Steps.{keptHalf, keptPair, kept, afterReset, lowWritten, highWritten, playing, nextLevel, clocked, afterClocks, levelsOf}
+use Rattle.dac.specs.Wave.{period, pair, level, wave}
+use Rattle.dac.specs.Steps.{halves, keptHalf, keptPair, kept, afterReset, lowWritten, highWritten, playing, nextLevel, clocked, afterClocks, levelsOf}
 use Rattle.dac.specs.Play.{tooMany, afterPlay, levelsPlayed}
-use Rattle.dac.specs.Stretch.{wave}
-use Rattle.dac.specs.Demand.{Event, low, high, play, reset, step, puts, run, output, Moment, wroteLow, wroteHigh, clock, cleared, momentsOf, moments, lastLow, lastPair, since, clocks, unreset, Period, heard, Shares, Demand3, Unaltered, history, Playable}
-use Rattle.dac.specs.Theorems.{Placed, Reached}
+use Rattle.periods.specs.Demand.{Event, low, high, play, reset, step, puts, run, output, Moment, wroteLow, wroteHigh, clock, cleared, momentsOf, moments, lastLow, lastPair, since, clocks, unreset, Period, heard, highClocks, Shares, Demand3, Unaltered, history}
+use Rattle.periods.specs.Theorems.{Waves, Placed}
 use Rattle.dac.proofs.Within.{pair-kept, first-plays, later-plays}
-use Rattle.dac.proofs.Count.{shares}
+use Rattle.periods.proofs.Count.{shares}
 
 -- what one moment makes of the record, and what a stretch of them does and puts out
 act : Moment → Dac → Dac
@@ -136,7 +134,7 @@ length-sound (clock ∷ ms) d = ap suc (length-sound ms (clocked (kept d)))
 length-sound (cleared ∷ ms) d = length-sound ms afterReset
 
 -- halves of a history are kept ones
-low-small : (h : List Moment) → lastLow h < 128
+low-small : (h : List Moment) → lastLow h < halves
 unfolding lastLow
 low-small [] = omega arith
 low-small (wroteLow byte ∷ h) = omega arith
@@ -144,10 +142,10 @@ low-small (wroteHigh byte ∷ h) = low-small h
 low-small (clock ∷ h) = low-small h
 low-small (cleared ∷ h) = omega arith
 
-pair-small : (h : List Moment) → (lastPair h .coarse < 128) × (lastPair h .fine < 128)
+pair-small : (h : List Moment) → (lastPair h .coarse < halves) × (lastPair h .fine < halves)
 unfolding lastPair
 pair-small [] = (omega arith, omega arith)
-pair-small (wroteLow byte ∷ h) = pair-small h
+pair-small (wroteLow byte ∷ h) = (omega (arith, pair-small h .0), omega (arith, pair-small h .1))
 pair-small (wroteHigh byte ∷ h) = (omega arith, low-small h)
 pair-small (clock ∷ h) = pair-small h
 pair-small (cleared ∷ h) = (omega arith, omega arith)
@@ -159,31 +157,29 @@ last-kept h = pair-kept (lastPair h) (pair-small h .0) (pair-small h .1)
 record Known (h : List Moment) (d : Dac) : Type 0 where
   place : kept d .position ≡ since h % period
   held : keptHalf (d .held .fine) ≡ lastLow h
-  made : keptPair (d .completed) ≡ lastPair h
+  coarse : keptHalf (d .completed .coarse) ≡ lastPair h .coarse
+  fine : keptHalf (d .completed .fine) ≡ lastPair h .fine
 
 -- one moment more
 known-wrote-low : (h : List Moment) (d : Dac) (byte : ℕ) → Known h d → Known (wroteLow byte ∷ h) (lowWritten d byte)
 unfolding since lastLow lastPair
-known-wrote-low h d byte k = record { place = omega (arith, k .place); held = omega arith; made = ap keptPair (k .made) ∙ last-kept h }
+known-wrote-low h d byte k = record { place = omega (arith, k .place); held = omega arith; coarse = omega (arith, k .coarse); fine = omega (arith, k .fine) }
 
 known-wrote-high : (h : List Moment) (d : Dac) (byte : ℕ) → Known h d → Known (wroteHigh byte ∷ h) (highWritten d byte)
 unfolding since lastLow lastPair
-known-wrote-high h d byte k =
-    let c : keptHalf (keptHalf byte) ≡ keptHalf byte = omega arith in
-    let f : keptHalf (keptHalf (d .held .fine)) ≡ lastLow h = omega (arith, k .held) in
-    record { place = omega (arith, k .place); held = f; made = ap₂ pair c f }
+known-wrote-high h d byte k = record { place = omega (arith, k .place); held = omega (arith, k .held); coarse = omega arith; fine = omega (arith, k .held) }
 
 known-clock : (h : List Moment) (d : Dac) → Known h d → Known (clock ∷ h) (clocked (kept d))
 unfolding since lastLow lastPair clocked
-known-clock h d k = record { place = omega (arith, k .place); held = omega (arith, k .held); made = ap keptPair (k .made) ∙ last-kept h }
+known-clock h d k = record { place = omega (arith, k .place); held = omega (arith, k .held); coarse = omega (arith, k .coarse); fine = omega (arith, k .fine) }
 
 known : (h : List Moment) → Known h (past h)
 unfolding past act since lastLow lastPair
-known [] = record { place = refl; held = refl; made = refl }
+known [] = record { place = refl; held = refl; coarse = refl; fine = refl }
 known (wroteLow byte ∷ h) = known-wrote-low h (past h) byte (known h)
 known (wroteHigh byte ∷ h) = known-wrote-high h (past h) byte (known h)
 known (clock ∷ h) = known-clock h (past h) (known h)
-known (cleared ∷ h) = record { place = refl; held = refl; made = refl }
+known (cleared ∷ h) = record { place = refl; held = refl; coarse = refl; fine = refl }
 
 -- a clock at position a with the pair q in force
 level-by : (k : Dac) (q : Pair) (a : ℕ) → playing k ≡ q → k .position ≡ a → nextLevel k ≡ level q a
@@ -221,10 +217,10 @@ module _ (es : List Event) (h p rest : List Moment) (P : Period es h p rest) whe
   split = P .whole
 
   at-start : kept (past h) .position ≡ 0
-  at-start = known h .place ∙ P .starts
+  at-start = omega (arith, known h .place, P .starts)
 
   comes-in : playing (kept (past h)) ≡ lastPair h
-  comes-in = first-plays (kept (past h)) at-start ∙ known h .made
+  comes-in = first-plays (kept (past h)) at-start ∙ ap₂ pair (known h .coarse) (known h .fine)
 
   from-first : take (clocks (clock ∷ p)) (sound tail (past h)) ≡ wave (lastPair h) 0 (clocks (clock ∷ p))
   unfolding tail sound clocks wave
@@ -232,19 +228,22 @@ module _ (es : List Event) (h p rest : List Moment) (P : Period es h p rest) whe
       ap₂ (λ (x : ℕ) (y : List ℕ). x ∷ y) (level-by (kept (past h)) (lastPair h) 0 comes-in at-start)
       (goes-on p rest (clocked (kept (past h))) (lastPair h) 1 (last-kept h) (P .unbroken) (clocked-force (kept (past h)) ∙ comes-in) (clocked-position (kept (past h)) 0 at-start) (omega arith) (omega (arith, P .ended)))
 
-  pub is-wave : heard es h ≡ wave (lastPair h) 0 period
+  is-wave : heard es h ≡ wave (lastPair h) 0 period
   is-wave =
       ap (λ (l : List ℕ). take period (drop (clocks h) l)) (output-sound es afterReset ∙ ap (λ (ms : List Moment). sound ms afterReset) split ∙ sound-append (reverse h) tail afterReset)
       ∙ ap (λ (l : List ℕ). take period l) (drop-at (sound (reverse h) afterReset) (sound tail (through (reverse h) afterReset)) (clocks h) (length-sound (reverse h) afterReset ∙ clocks-history h))
       ∙ ap (λ (d : Dac). take period (sound tail d)) (through-history h)
       ∙ subst (λ (n : ℕ). take n (sound tail (past h)) ≡ wave (lastPair h) 0 n) (P .ended) from-first
 
+pub waves : Waves
+waves = is-wave
+
 pub demand3 : Demand3
 demand3 es h p rest P =
-    subst (λ (w : List ℕ). Shares (total (lastPair h)) w) (sym (is-wave es h p rest P)) (shares (lastPair h) (pair-small h .0) (pair-small h .1))
+    subst (λ (w : List ℕ). Shares (highClocks (lastPair h)) w) (sym (waves es h p rest P)) (shares (lastPair h) (pair-small h .0) (pair-small h .1))
 
 pub unaltered : Unaltered
-unaltered es h p rest P es′ h′ p′ rest′ P′ e = is-wave es h p rest P ∙ ap (λ (q : Pair). wave q 0 period) e ∙ sym (is-wave es′ h′ p′ rest′ P′)
+unaltered es h p rest P es′ h′ p′ rest′ P′ e = waves es h p rest P ∙ ap (λ (q : Pair). wave q 0 period) e ∙ sym (waves es′ h′ p′ rest′ P′)
 
 -- where a sequence from reset ends
 run-past : (es : List Event) → run es afterReset ≡ past (history es)
@@ -260,33 +259,3 @@ past-place (cleared ∷ h) = refl
 
 pub placed : Placed
 placed es = ap (λ (d : Dac). d .position) (run-past es) ∙ past-place (history es)
-
--- a play of a whole period, where a period starts
-moments-append : (es fs : List Event) → moments (es ++ fs) ≡ moments es ++ moments fs
-unfolding moments
-moments-append [] fs = refl
-moments-append (e ∷ es) fs = ap (λ (l : List Moment). momentsOf e ++ l) (moments-append es fs) ∙ sym (append-assoc (momentsOf e) (moments es) (moments fs))
-
-all-clocks : (n : ℕ) → (clocks (replicate n clock) ≡ n) × (unreset (replicate n clock) ≡ true)
-unfolding clocks unreset
-all-clocks zero = (refl, refl)
-all-clocks (suc n) = (ap suc (all-clocks n .0), all-clocks n .1)
-
-whole-play : (room : ℕ) → period ≤ room → moments (play period room ∷ []) ≡ clock ∷ (replicate (period - 1) clock ++ [])
-unfolding moments momentsOf
-whole-play room h = rw (le-ltb room period h)
-
-one-more : (ms : List Moment) → clocks (clock ∷ ms) ≡ suc (clocks ms)
-unfolding clocks
-one-more ms = refl
-
-pub playable : Playable
-playable es room h s = record {
-  whole = moments-append es (play period room ∷ []) ∙ ap₂ (λ (a b : List Moment). a ++ b) (sym (reverse-reverse (moments es))) (whole-play room h);
-  starts = s;
-  unbroken = all-clocks (period - 1) .1;
-  ended = one-more (replicate (period - 1) clock) ∙ ap suc (all-clocks (period - 1) .0);
-}
-
-pub reached : Reached
-reached es room h e = playable es room h (sym (placed es) ∙ e)

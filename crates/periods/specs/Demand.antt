@@ -1,5 +1,5 @@
 -- Demand 3, in words that never look into the running record: what a host does, what then happens clock by clock, and what is asked of every
--- period that is played to its end. The record goes through `step` alone, whose cases are what the promises of the crate's functions cite.
+-- period that is played to its end. The record goes through `step` alone, whose cases are what the promises of dac's functions cite.
 -- Assumes nothing.
 use Prim.Native.Nat.{ℕ, suc, _+_, _-_, _*_, _%_, _^_, _<_, _≤_}
 use mathlib.Core.Path.{_≡_}
@@ -8,11 +8,11 @@ use mathlib.Core.List.{List, [], _∷_, _++_, reverse}
 use lib.Dec.{eqb}
 use lib.ListN.{length, take, drop, replicate}
 use Rattle.laws.specs.Pick.{pick}
 use Rattle.dac.specs.declared.Pair.{Pair}
 use Rattle.dac.specs.declared.Dac.{Dac}
-use Rattle.dac.specs.Wave.{period, pair, total}
+use Rattle.dac.specs.Wave.{period, subPeriod, subPeriods, pair}
 use Rattle.dac.specs.Steps.{keptHalf, afterReset, lowWritten, highWritten}
 use Rattle.dac.specs.Play.{tooMany, afterPlay, levelsPlayed}
 
 -- What a host does with its one running record: writes of a byte to either register, plays of so many clocks into so many bytes lent, resets.
 pub data Event : Type 0 where
@@ -112,24 +112,29 @@ pub record Period (es : List Event) (h p rest : List Moment) : Type 0 where
 abbrev pub heard : List Event → List Moment → List ℕ
 heard es h = take period (drop (clocks h) (output es afterReset))
 
+-- how many of some levels are high
 unfoldable pub highs : List ℕ → ℕ
 highs [] = 0
 highs (b ∷ bs) = pick (eqb b 1) 1 0 + highs bs
 
+-- T: how many high clocks of a period a pair asks for
+abbrev pub highClocks : Pair → ℕ
+highClocks q = subPeriods * q .coarse + q .fine
+
 -- run j of r sub-periods, counted from the period's start
 abbrev pub runOf : ℕ → ℕ → List ℕ → List ℕ
-runOf r j w = take (128 * r) (drop (128 * (r * j)) w)
+runOf r j w = take (subPeriod * r) (drop (subPeriod * (r * j)) w)
 
--- What is asked of a period's levels w, t being T: t of them are high; and in every run of r = 1, 2, 4, .. 64 sub-periods 128 times the number
--- of high clocks is less than 128 away from r times t.
+-- What is asked of a period's levels w, t being T: t of them are high; and in every run of r = 1, 2, 4, .. 64 of its 128 sub-periods 128 times
+-- the number of high clocks is less than 128 away from r times t.
 pub record Shares (t : ℕ) (w : List ℕ) : Type 0 where
   pub long : length w ≡ period
   pub exact : highs w ≡ t
-  pub below : (k j : ℕ) → k < 7 → j < 2 ^ (7 - k) → 128 * highs (runOf (2 ^ k) j w) < 2 ^ k * t + 128
-  pub above : (k j : ℕ) → k < 7 → j < 2 ^ (7 - k) → 2 ^ k * t < 128 * highs (runOf (2 ^ k) j w) + 128
+  pub below : (k j : ℕ) → k < 7 → j < 2 ^ (7 - k) → subPeriods * highs (runOf (2 ^ k) j w) < 2 ^ k * t + subPeriods
+  pub above : (k j : ℕ) → k < 7 → j < 2 ^ (7 - k) → 2 ^ k * t < subPeriods * highs (runOf (2 ^ k) j w) + subPeriods
 
 abbrev pub Demand3 : Type 0
-Demand3 = (es : List Event) (h p rest : List Moment) → Period es h p rest → Shares (total (lastPair h)) (heard es h)
+Demand3 = (es : List Event) (h p rest : List Moment) → Period es h p rest → Shares (highClocks (lastPair h)) (heard es h)
 
 -- No write during a period alters it: two periods, of any two sequences and with anything but a reset during either, have the same levels
 -- where the last pairs completed before their first clocks are the same.
@@ -144,3 +149,20 @@ abbrev pub Playable : Type 0
 Playable =
     (es : List Event) (room : ℕ) → period ≤ room → since (history es) % period ≡ 0
     → Period (es ++ (play period room ∷ [])) (history es) (replicate (period - 1) clock) []
+
+-- And such with writes in them: the period in two plays, a clocks and then b, with a low and a high half written between the two.
+abbrev pub writtenInto : ℕ → ℕ → ℕ → ℕ → ℕ → ℕ → List Event
+writtenInto a room x y b room′ = play a room ∷ low x ∷ high y ∷ play b room′ ∷ []
+
+abbrev pub Writable : Type 0
+Writable =
+    (es : List Event) (a room x y b room′ : ℕ) → 0 < a → a + b ≡ period → a ≤ room → b ≤ room′ → since (history es) % period ≡ 0
+    → Period (es ++ writtenInto a room x y b room′) (history es) (replicate (a - 1) clock ++ (wroteLow x ∷ wroteHigh y ∷ replicate b clock)) []
+
+-- So the pair written into a period leaves its levels as if it had been played at once with no write, and is the one that the next goes by.
+abbrev pub Undisturbed : Type 0
+Undisturbed =
+    (es : List Event) (a room x y b room′ whole : ℕ) → 0 < a → a + b ≡ period → a ≤ room → b ≤ room′ → period ≤ whole → since (history es) % period ≡ 0
+    → let fs = es ++ writtenInto a room x y b room′ in
+    (heard fs (history es) ≡ heard (es ++ (play period whole ∷ [])) (history es))
+    × (since (history fs) % period ≡ 0) × (lastPair (history fs) ≡ pair (keptHalf y) (keptHalf x))

@@ -1,22 +1,22 @@
--- What else is proved of the account. The proofs are in proofs/Proved.antt, those of the last two in proofs/Stream.antt.
+-- What else is proved of the DAC's account: of its definitions one by one, and then of sequences of events.
 -- Assumes nothing.
 use Prim.Native.Nat.{ℕ, suc, _+_, _-_, _%_, _<_, _≤_}
 use mathlib.Core.Path.{_≡_}
 use mathlib.Core.List.{List, [], _∷_, _++_}
-use mathlib.Core.Bool.{false}
+use mathlib.Core.Bool.{true, false}
 use lib.Count.{trailingZeros}
-use lib.ListN.{length, replicate}
+use lib.ListN.{length, take, drop, replicate}
 use Rattle.dac.specs.declared.Pair.{Pair}
 use Rattle.dac.specs.declared.Dac.{Dac}
-use Rattle.dac.specs.Wave.{period, bit, added, level}
+use Rattle.dac.specs.Wave.{period, subPeriods, bit, added, level, wave}
 use Rattle.dac.specs.Steps.{keptPair, kept, afterReset, lowWritten, highWritten, afterClocks, levelsOf}
-use Rattle.dac.specs.Play.{tooMany, afterPlay, lentAfter}
-use Rattle.dac.specs.Demand.{Event, play, run, clock, history, since, Period}
+use Rattle.dac.specs.Play.{tooMany, afterPlay, levelsPlayed, lentAfter}
+use Rattle.periods.specs.Demand.{Event, play, run, Moment, clock, history, lastPair, since, Period, heard}
 
 -- Fine bit b serves exactly the sub-periods from 1 to 127 that end in 6 - b zero bits; sub-period 0 gets nothing.
 abbrev pub Serves : Type 0
 Serves =
-    (fine : ℕ) → (added fine 0 ≡ 0) × ((b n : ℕ) → b ≤ 6 → 0 < n → n < 128 → trailingZeros 7 n ≡ 6 - b → added fine n ≡ bit fine b)
+    (fine : ℕ) → (added fine 0 ≡ 0) × ((b n : ℕ) → b ≤ 6 → 0 < n → n < subPeriods → trailingZeros 7 n ≡ 6 - b → added fine n ≡ bit fine b)
 
 -- Two pairs are the same only if both halves are: pairs that give the same level at every position agree in both.
 abbrev pub BothHalves : Type 0
@@ -30,13 +30,25 @@ Joined =
     → (afterPlay (afterPlay d a (length s)) b (length t) ≡ afterPlay d (a + b) (length (s ++ t)))
     × (lentAfter d a s ++ lentAfter (afterPlay d a (length s)) b t ≡ lentAfter d (a + b) (s ++ t))
 
+-- The levels that a play puts out are what the host finds: an accepted one has left them in the first bytes lent, and the others as they came; a
+-- refused one puts out none, and leaves all.
+abbrev pub Found : Type 0
+Found =
+    (d : Dac) (c : ℕ) (lent : List ℕ)
+    → (tooMany c (length lent) ≡ false → (take c (lentAfter d c lent) ≡ levelsPlayed d c (length lent)) × (drop c (lentAfter d c lent) ≡ drop c lent))
+    × (tooMany c (length lent) ≡ true → (levelsPlayed d c (length lent) ≡ []) × (lentAfter d c lent ≡ lent))
+
 -- A record that the host made up is used by its kept form, and a write or a clock leaves kept values only.
-abbrev pub Kept : Type 0
-Kept =
+abbrev pub Keeps : Type 0
+Keeps =
     (d : Dac) (byte c : ℕ)
     → (lowWritten (kept d) byte ≡ lowWritten d byte) × (kept (lowWritten d byte) ≡ lowWritten d byte)
     × (highWritten (kept d) byte ≡ highWritten d byte) × (kept (highWritten d byte) ≡ highWritten d byte)
     × (levelsOf c (kept d) ≡ levelsOf c d) × (afterClocks (suc c) (kept d) ≡ afterClocks (suc c) d) × (kept (afterClocks (suc c) d) ≡ afterClocks (suc c) d)
+
+-- A period's levels are those that the last pair completed before it gives, position by position.
+abbrev pub Waves : Type 0
+Waves = (es : List Event) (h p rest : List Moment) → Period es h p rest → heard es h ≡ wave (lastPair h) 0 period
 
 -- The position that the record has after a sequence from reset is the clocks since the last reset, less whole periods.
 abbrev pub Placed : Type 0

@@ -1,30 +1,30 @@
--- The statements of specs/Theorems.antt, proved from the laws of the other files; `placed` and `reached` are in proofs/Stream.antt.
+-- The statements of specs/Theorems.antt about the definitions, from dac's own laws of them and from the count of high clocks.
 -- Assumes nothing.
 use Prim.Native.Nat.{ℕ, zero, suc, _+_, _-_, _%_, _<_, _≤_}
 use mathlib.Core.Path.{_≡_, refl, sym, ap, ap₂, _∙_}
-use mathlib.Core.Bool.{false}
+use mathlib.Core.Bool.{Bool, true, false, false≢true, _||_}
 use mathlib.Core.List.{List, [], _∷_, _++_, append-assoc, append-nil}
 use native.Mathlib.Omega.{arith}
 use lib.Count.{trailingZeros}
-use lib.ListN.{length, drop, length-append}
-use lib.Seq.{drop-length, drop-append-add}
-use borrow.Author.Tests.{ne-eqb}
+use lib.Dec.{ltb}
+use lib.ListN.{length, take, drop, length-append}
+use lib.Seq.{take-at, drop-at, drop-length, drop-append-add}
+use borrow.Author.Tests.{ne-eqb, ltb-false}
 use Rattle.dac.specs.declared.Pair.{Pair}
 use Rattle.dac.specs.declared.Dac.{Dac}
-use Rattle.dac.specs.Wave.{period, pair, bit, added, level}
-use Rattle.dac.specs.Steps.{keptHalf, keptPair, dacOf, kept, nextLevel, clocked, afterClocks, levelsOf}
-use Rattle.dac.specs.Play.{tooMany, afterPlay}
-use Rattle.dac.specs.Stretch.{wave}
-use Rattle.dac.specs.Theorems.{Serves, BothHalves, Joined, Kept}
-use Rattle.dac.proofs.Within.{pair-kept, keptPair-kept, playing-kept, levels-split, after-split}
-use Rattle.dac.proofs.Answers.{not-many, may, accepted-play, lent-played}
-use Rattle.dac.proofs.Count.{one-pair}
+use Rattle.dac.specs.Wave.{period, subPeriods, pair, bit, added, level, wave}
+use Rattle.dac.specs.Steps.{halves, keptHalf, keptPair, dacOf, kept, nextLevel, clocked, afterClocks, levelsOf}
+use Rattle.dac.specs.Play.{tooMany, afterPlay, levelsPlayed, lentAfter}
+use Rattle.periods.specs.Theorems.{Serves, BothHalves, Joined, Found, Keeps}
+use Rattle.dac.proofs.Within.{pair-kept, keptPair-kept, playing-kept, length-levels, levels-split, after-split}
+use Rattle.dac.proofs.Answers.{may, refused-play, accepted-play}
+use Rattle.periods.proofs.Count.{one-pair}
 
 pub serves : Serves
 unfolding added
 serves fine = (refl, by-bit)
   where
-    by-bit : (b n : ℕ) → b ≤ 6 → 0 < n → n < 128 → trailingZeros 7 n ≡ 6 - b → added fine n ≡ bit fine b
+    by-bit : (b n : ℕ) → b ≤ 6 → 0 < n → n < subPeriods → trailingZeros 7 n ≡ 6 - b → added fine n ≡ bit fine b
     by-bit b n hb some hn e =
         let back : 6 - (6 - b) ≡ b = omega arith in
         rw (ne-eqb n 0 (λ z. omega arith), e, back)
@@ -35,10 +35,10 @@ same-wave p q a zero h = refl
 same-wave p q a (suc n) h =
     ap₂ (λ (l : ℕ) (ls : List ℕ). l ∷ ls) (h a (omega arith) (omega arith)) (same-wave p q (suc a) n (λ i lo hi. h i (omega arith) (omega arith)))
 
-kept-small : (p : Pair) → keptPair p ≡ p → (p .coarse < 128) × (p .fine < 128)
+kept-small : (p : Pair) → keptPair p ≡ p → (p .coarse < halves) × (p .fine < halves)
 kept-small p e =
-    let c : p .coarse % 128 ≡ p .coarse = ap (λ (x : Pair). x .coarse) e in
-    let f : p .fine % 128 ≡ p .fine = ap (λ (x : Pair). x .fine) e in
+    let c : p .coarse % halves ≡ p .coarse = ap (λ (x : Pair). x .coarse) e in
+    let f : p .fine % halves ≡ p .fine = ap (λ (x : Pair). x .fine) e in
     (omega arith, omega arith)
 
 pub both-halves : BothHalves
@@ -47,6 +47,19 @@ both-halves p q kp kq h =
     let b = kept-small q kq in
     let e : p ≡ q = one-pair p q (a .0) (a .1) (b .0) (b .1) (same-wave p q 0 period (λ i lo hi. h i (omega arith))) in
     (ap (λ (x : Pair). x .coarse) e, ap (λ (x : Pair). x .fine) e)
+
+-- a play that is not refused asks for no more than there may be, and leaves its levels in the first bytes lent
+not-many : (c room : ℕ) → tooMany c room ≡ false → (c ≤ period) × (c ≤ room)
+not-many c room e = go (ltb period c) (ltb room c) refl refl e
+  where
+    go : (x y : Bool) → ltb period c ≡ x → ltb room c ≡ y → (x || y) ≡ false → (c ≤ period) × (c ≤ room)
+    go true y p q f = absurd (false≢true (sym f))
+    go false true p q f = absurd (false≢true (sym f))
+    go false false p q f = (ltb-false period c p, ltb-false room c q)
+
+lent-played : (d : Dac) (c : ℕ) (s : List ℕ) → tooMany c (length s) ≡ false → lentAfter d c s ≡ levelsOf c d ++ drop c s
+unfolding levelsPlayed lentAfter
+lent-played d c s e = rw (e, length-levels c d)
 
 pub joined : Joined
 joined d a b s t e accepted =
@@ -61,6 +74,17 @@ joined d a b s t e accepted =
       rw (first, lent-played d a s first-may, lent-played (afterClocks a d) b t then-may, lent-played d (a + b) (s ++ t) accepted, empty, behind, append-nil (levelsOf a d), levels-split a b d)
           (sym (append-assoc (levelsOf a d) (levelsOf b (afterClocks a d)) (drop b t))),
     )
+
+pub found : Found
+unfolding levelsPlayed
+found d c lent = (accepted, refused)
+  where
+    accepted : tooMany c (length lent) ≡ false → (take c (lentAfter d c lent) ≡ levelsPlayed d c (length lent)) × (drop c (lentAfter d c lent) ≡ drop c lent)
+    accepted e =
+        rw (lent-played d c lent e, e) (take-at (levelsOf c d) (drop c lent) c (length-levels c d), drop-at (levelsOf c d) (drop c lent) c (length-levels c d))
+
+    refused : tooMany c (length lent) ≡ true → (levelsPlayed d c (length lent) ≡ []) × (lentAfter d c lent ≡ lent)
+    refused e = (rw e refl, sym (refused-play d c lent e .2))
 
 -- a record whose parts are kept is as its kept form
 kept-parts : (p : ℕ) (h c f : Pair) → p < period → keptPair h ≡ h → keptPair c ≡ c → keptPair f ≡ f → kept (dacOf p h c f) ≡ dacOf p h c f
@@ -88,7 +112,7 @@ unfolding afterClocks
 stays-kept zero d = clocked-kept d
 stays-kept (suc c) d = stays-kept c (clocked (kept d))
 
-pub keeps : Kept
+pub keeps : Keeps
 keeps d byte c =
     let low = pair-kept (pair (keptHalf (d .held .coarse)) (keptHalf byte)) (omega arith) (omega arith) in
     let made = pair-kept (pair (keptHalf byte) (keptHalf (d .held .fine))) (omega arith) (omega arith) in

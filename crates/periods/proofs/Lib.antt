@@ -1,0 +1,5 @@
+pub mod Count
+pub mod Exist
+pub mod Fair
+pub mod Proved
+pub mod Stream
