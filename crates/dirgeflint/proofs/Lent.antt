@@ -43,10 +43,10 @@ use denote.Exit.{yes}
 use Rattle.dac.specs.declared.Dac.{Dac}
 use Rattle.dac.proofs.Dac as T
 use Rattle.dac.proofs.Dac.Laws as T′
-use Rattle.dirgeflint.specs.declared.Answer.{Answer}
+use Rattle.answer.specs.declared.Answer.{Answer}
 use Rattle.dirgeflint.specs.declared.dac_face.PlayTold.{PlayTold}
-use Rattle.dirgeflint.proofs.Answer as P
-use Rattle.dirgeflint.proofs.Answer.Laws as P′
+use Rattle.answer.proofs.Answer as P
+use Rattle.answer.proofs.Answer.Laws as P′
 use Rattle.dirgeflint.proofs.dac_face.PlayTold as S
 use Rattle.dirgeflint.proofs.dac_face.PlayTold.Laws as S′
 

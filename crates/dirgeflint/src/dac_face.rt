@@ -4,8 +4,8 @@ ghost use mathlib.Core.Path.{_≡_};
 ghost use lib.ListN.{length};
 ghost use Rattle.dac.specs.Steps.{afterReset, lowWritten, highWritten};
 ghost use Rattle.dac.specs.Play.{answerOf, afterPlay, lentAfter, said};
-ghost use Rattle.dirgeflint.specs.Face.{told};
-use crate::Answer;
+ghost use Rattle.answer.specs.Told.{told};
+use answer::Answer;
 use dac::Dac;
 use dac::Played;
 
@@ -63,15 +63,7 @@ fn played_answer(played: Played) -> Answer
     ensures { λ r. ⌜ told r ≡ said played ⌝ }
 {
     match played {
-        Played::All => Answer {
-            number: 0,
-            place: 0,
-            value: 0,
-        },
-        Played::TooMany => Answer {
-            number: 14,
-            place: 0,
-            value: 0,
-        },
+        Played::All => answer::accepted(0),
+        Played::TooMany => answer::refused(14, 0),
     }
 }

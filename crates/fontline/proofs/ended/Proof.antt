@@ -6,6 +6,9 @@ use borrow.Author.Needs.{needs}
 use Rattle.fontline.proofs.ended.Statement.{statement}
 use Rattle.fontline.proofs.ended.Tie as tie
 
+sub-start : tie.Need-sub-start
+sub-start c = search needs
+
 array-write-bytes : tie.Need-array-write-bytes
 array-write-bytes c = search needs
 
@@ -14,4 +17,4 @@ unfolding lineWith
 returns c = refl
 
 pub ended-spec : {M : Type 1} → statement M
-ended-spec = tie.close (tie.spec array-write-bytes returns)
+ended-spec = tie.close (tie.spec sub-start array-write-bytes returns)

@@ -9,8 +9,8 @@ use denote.Triple.Spec.{tripleOf}
 use denote.Triple.Table.{entered, cited}
 use Rattle.dac.specs.declared.Dac.{Dac}
 use Rattle.dac.specs.Play.{answerOf, afterPlay, lentAfter}
-use Rattle.dirgeflint.specs.Face.{told}
-use Rattle.dirgeflint.specs.declared.Answer.{Answer}
+use Rattle.answer.specs.Told.{told}
+use Rattle.answer.specs.declared.Answer.{Answer}
 use Rattle.dirgeflint.proofs.Lent.{PlayStep, play-meets}
 use Rattle.dirgeflint.proofs.dac_face.play_told.Symbol as step
 use Rattle.dirgeflint.proofs.dac_face.play_told.Met as step-met

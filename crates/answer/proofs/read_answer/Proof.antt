@@ -1,13 +1,16 @@
--- `fontline::read_told` meets its contract: in each case the numbers are those of the definition.
+-- In each arm the struct tells what is said of the case that was met.
 -- Assumes nothing.
 use Rattle.hex.specs.Reading.{said}
 use mathlib.Core.Path.{sym, _∙_, ap}
 use borrow.Author.Needs.{needs}
-use Rattle.fontline.proofs.read_told.Statement.{statement}
-use Rattle.fontline.proofs.read_told.Tie as tie
+use Rattle.answer.proofs.read_answer.Statement.{statement}
+use Rattle.answer.proofs.read_answer.Tie as tie
 
 enum-known-outcome : tie.Need-enum-known-outcome
 enum-known-outcome c = search needs
+
+accepted-requires : tie.Need-accepted-requires
+accepted-requires c κs = search needs
 
 enum-told : tie.Need-enum-told
 enum-told c = search needs
@@ -52,7 +55,7 @@ refused-requires-7 : tie.Need-refused-requires-7
 refused-requires-7 c κs = search needs
 
 returns : tie.Need-returns
-returns c = sym (ap said (c .before .outcome .given .1))
+returns c = c .accepted .ensures ∙ sym (ap said (c .before .before .outcome .given .1))
 
 returns-2 : tie.Need-returns-2
 returns-2 c = c .refused .ensures ∙ sym (ap said (c .before .enum-told .given .1))
@@ -75,11 +78,12 @@ returns-7 c = c .refused6 .ensures ∙ sym (ap said (c .before .before .outcome6
 returns-8 : tie.Need-returns-8
 returns-8 c = c .refused7 .ensures ∙ sym (ap said (c .before .before .outcome7 .given .1))
 
-pub read-told-spec : {M : Type 1} → statement M
-read-told-spec =
+pub read-answer-spec : {M : Type 1} → statement M
+read-answer-spec =
     tie.close
     (tie.spec
     enum-known-outcome
+    accepted-requires
     enum-told
     refused-requires
     enum-known-outcome-2
