@@ -38,25 +38,10 @@ pub extern "C" fn dirgeflint_dac_play(running: &mut Dac, clocks: u32, levels: &m
     ensures { λ r. ⌜ (told r ≡ answerOf clocks (length (now (levels .entry)))) × (now (running .exit) ≡ afterPlay (now (running .entry)) clocks (length (now (levels .entry)))) × (now (levels .exit) ≡ lentAfter (now (running .entry)) clocks (now (levels .entry))) ⌝ }
 {
     let before = *running;
-    let told = play_told(before, clocks, levels);
-    *running = told.after;
-    told.answer
-}
-
-// The record after a play, and what C is told of it.
-pub struct PlayTold {
-    pub after: Dac,
-    pub answer: Answer,
-}
-
-fn play_told(before: Dac, clocks: u32, levels: &mut [u8]) -> PlayTold
-    ensures { λ r. ⌜ (told (r .answer) ≡ answerOf clocks (length (now (levels .entry)))) × (r .after ≡ afterPlay before clocks (length (now (levels .entry)))) × (now (levels .exit) ≡ lentAfter before clocks (now (levels .entry))) ⌝ }
-{
     let played = dac::play(before, clocks, levels);
-    let after = played.after;
+    *running = played.after;
     let case = played.answer;
-    let answer = played_answer(case);
-    PlayTold { after, answer }
+    played_answer(case)
 }
 
 fn played_answer(played: Played) -> Answer

@@ -1,4 +1,4 @@
--- A write over the step `dac::write_high`: the walk of proofs/Lent.antt, at the step's own promise.
+-- A write over the step `dac::write_high`: the walk of lent/proofs/Write, at the step's own promise.
 -- Assumes nothing.
 use mathlib.Core.Path.{_≡_}
 use Prim.Native.Nat.{ℕ}
@@ -9,7 +9,7 @@ use Rattle.dac.specs.declared.Dac.{Dac}
 use Rattle.dac.specs.Steps.{highWritten}
 use Rattle.dac.proofs.write_high.Symbol as step
 use Rattle.dac.proofs.write_high.Met as step-met
-use Rattle.dirgeflint.proofs.Lent.{WriteStep, write-meets}
+use Rattle.lent.proofs.Write.{WriteStep, write-meets}
 use Rattle.dirgeflint.proofs.dac_face.dirgeflint_dac_write_high as f
 use Rattle.dirgeflint.proofs.dac_face.dirgeflint_dac_write_high.Code as code
 use Rattle.dirgeflint.proofs.dac_face.dirgeflint_dac_write_high.Key as key
@@ -23,5 +23,5 @@ unfolding code.routine tablesOf
 dirgeflint-dac-write-high-spec 𝓤 H 𝓜 𝓖 𝓡 =
     entered 𝓤 H (tripleOf 𝓤 H (𝓖 .A) f.signature (f.spec 𝓤 H (𝓖 .A) (𝓜 .mem) (𝓡 .run)))
     (tables 𝓤 H 𝓜 𝓡 code.env .C) (tables 𝓤 H 𝓜 𝓡 code.env .Λ) key.name code.function (code.unfolded 𝓤 H 𝓜 𝓡)
-    (write-meets Says step.name 𝓤 H (𝓖 .A) (givenOf 𝓤 H 𝓜 𝓖) (tablesOf 𝓤 H 𝓜 (tables 𝓤 H 𝓜 𝓡 code.env))
+    (write-meets Says Says (λ before byte after e. e) step.name 𝓤 H (𝓖 .A) (givenOf 𝓤 H 𝓜 𝓖) (tablesOf 𝓤 H 𝓜 (tables 𝓤 H 𝓜 𝓡 code.env))
     (cited 𝓤 H (WriteStep Says 𝓤 H (𝓖 .A)) 𝓜 𝓡 code.env step.name step.routine code.calls-dac·write-high (step-met.met 𝓤 H 𝓜 𝓖 𝓡)))

@@ -1,0 +1,4 @@
+pub mod Play
+pub mod Record
+pub mod Reset
+pub mod Write
