@@ -23,6 +23,7 @@ use Rattle.dirgeflint.proofs.dac_face.dirgeflint_dac_play.Code as code
 use Rattle.dirgeflint.proofs.dac_face.dirgeflint_dac_play.Key as key
 use Rattle.dirgeflint.proofs.dac_face.dirgeflint_dac_play.Statement as stated
 
+-- the promises of the step and of the telling, and the function's own
 abbrev Says : Dac → ℕ → List ℕ → Dac → Played → List ℕ → Type 0
 Says before clocks lent after case now =
     (said case ≡ answerOf clocks (length lent)) × (after ≡ afterPlay before clocks (length lent)) × (now ≡ lentAfter before clocks lent)
