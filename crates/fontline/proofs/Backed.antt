@@ -1,6 +1,6 @@
 -- A line held at the back of its bytes grows at its front: by one byte, by a number's digits, by words.
 -- Assumes nothing.
-use mathlib.Core.Path.{_≡_, sym, _∙_, ap}
+use mathlib.Core.Path.{_≡_, refl, sym, _∙_, ap}
 use mathlib.Core.Bool.{Bool, true, false}
 use mathlib.Core.List.{List, [], _∷_, _++_}
 use Prim.Native.Nat.{ℕ, zero, suc, _+_, _-_, _/_, _%_, _^_, _<_, _≤_}
@@ -23,6 +23,11 @@ line-start line l e = ap (λ (x : Line). x .start) e
 pub line-bytes : (line : Line) (l : List ℕ) → line ≡ lineWith l → line .bytes ≡ replicate (room - length l) 0 ++ l
 unfolding lineWith
 line-bytes line l e = ap (λ (x : Line). x .bytes) e
+
+-- a line that is its end alone
+pub line-end : _≡_ {A = Line} (record { bytes = set (replicate room 0) (room - 1) LF; start = room - 1 }) (lineWith (LF ∷ []))
+unfolding lineWith
+line-end = refl
 
 -- one byte more, over one of the zeros
 one-more : (l : List ℕ) (byte q : ℕ) → room - length l ≡ q + 1 → set (replicate (room - length l) 0 ++ l) q byte ≡ replicate q 0 ++ (byte ∷ l)
