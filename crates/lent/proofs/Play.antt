@@ -53,7 +53,7 @@ use Rattle.answer.proofs.Answer as P
 use Rattle.answer.proofs.Answer.Laws as P′
 use Rattle.lent.proofs.Record.{R, held, heldAs}
 
-abbrev pub play-lent : Ended
+abbrev play-lent : Ended
 play-lent = record {
   signature = record {
     lifetimes = 2;
@@ -64,7 +64,7 @@ play-lent = record {
   kept = (yes, (yes, (yes, tt)));
 }
 
-abbrev pub play-step : Ended
+abbrev play-step : Ended
 play-step = record {
   signature = record {
     lifetimes = 1;
@@ -76,7 +76,7 @@ play-step = record {
 }
 
 -- the telling: fn h(case: Played) -> Answer
-abbrev pub tell-step : Ended
+abbrev tell-step : Ended
 tell-step = record {
   signature = record { lifetimes = 0; outlives = []; params = plain (λ _. E.the-row) ∷ []; result = plain (λ _. P.the-row) };
   kept = (yes, tt);
@@ -85,7 +85,7 @@ tell-step = record {
 abbrev play-stays : Stays (play-lent .signature .params) (play-lent .kept)
 play-stays = (stay-ref (0 ∷ []) tt (plain (λ _. R)), (stay-none (λ _. u32) yes, (gave-slice (1 ∷ []) tt (plain (λ _. u8)), tt)))
 
-abbrev pub play-code : Name → Name → Fn
+abbrev play-code : Name → Name → Fn
 play-code g h = record {
   lifetimes = 2;
   outlives = [];
@@ -103,12 +103,12 @@ play-code g h = record {
 
 -- what the function says of the record before, the clocks and the bytes lent, and of the record after, the answer and the bytes then
 module _ (Claims : Dac → ℕ → List ℕ → Dac → Answer → List ℕ → Type 0) {M : Type 1} (𝓤 : URA M) where
-  abbrev pub play-promise : Clauses 𝓤 play-lent
+  abbrev play-promise : Clauses 𝓤 play-lent
   play-promise κs a = record { ghost = Unit {0}; requires = λ _. emp 𝓤; ensures = λ _ r e. fact 𝓤 (Claims (a .0 .now) (a .1 .0) (a .1 .1 .0 .now) (e .0 .now) r (e .1 .1 .0 .now)) }
 
 -- the same, by the step, with the case in the answer's place
 module _ (Says : Dac → ℕ → List ℕ → Dac → Played → List ℕ → Type 0) {M : Type 1} (𝓤 : URA M) where
-  abbrev pub play-step-promise : Clauses 𝓤 play-step
+  abbrev play-step-promise : Clauses 𝓤 play-step
   play-step-promise κs a = record { ghost = Unit {0}; requires = λ _. emp 𝓤; ensures = λ _ r e. fact 𝓤 (Says (a .0) (a .1 .0) (a .1 .1 .0 .now) (r .after) (r .answer) (e .1 .1 .0 .now)) }
 
   module _ (H : Heap 𝓤) (A : Atoms 𝓤) where
@@ -117,7 +117,7 @@ module _ (Says : Dac → ℕ → List ℕ → Dac → Played → List ℕ → Ty
 
 -- what the telling says of the case and the answer
 module _ (Tells : Played → Answer → Type 0) {M : Type 1} (𝓤 : URA M) where
-  abbrev pub tell-step-promise : Clauses 𝓤 tell-step
+  abbrev tell-step-promise : Clauses 𝓤 tell-step
   tell-step-promise κs a = record { ghost = Unit {0}; requires = λ _. emp 𝓤; ensures = λ _ r e. fact 𝓤 (Tells (a .0) r) }
 
   module _ (H : Heap 𝓤) (A : Atoms 𝓤) where

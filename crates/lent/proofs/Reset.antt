@@ -38,19 +38,19 @@ use Rattle.dac.proofs.Dac as T
 use Rattle.dac.proofs.Dac.Laws as T′
 use Rattle.lent.proofs.Record.{R, heldAs}
 
-abbrev pub reset-lent : Ended
+abbrev reset-lent : Ended
 reset-lent = record {
   signature = record { lifetimes = 1; outlives = []; params = RefMutOf (0 ∷ []) tt (plain (λ _. R)) (λ _. tt) ∷ []; result = plain (λ _. unit) };
   kept = (yes, tt);
 }
 
-abbrev pub reset-step : Ended
+abbrev reset-step : Ended
 reset-step = record { signature = record { lifetimes = 0; outlives = []; params = []; result = plain (λ _. R) }; kept = tt }
 
 abbrev reset-stays : Stays (reset-lent .signature .params) (reset-lent .kept)
 reset-stays = (stay-ref (0 ∷ []) tt (plain (λ _. R)), tt)
 
-abbrev pub reset-code : Name → Fn
+abbrev reset-code : Name → Fn
 reset-code g = record {
   lifetimes = 1;
   outlives = [];
@@ -63,10 +63,10 @@ reset-code g = record {
 
 -- what is said of the record after: by the function, and by the step
 module _ (Says : Dac → Type 0) {M : Type 1} (𝓤 : URA M) where
-  abbrev pub reset-promise : Clauses 𝓤 reset-lent
+  abbrev reset-promise : Clauses 𝓤 reset-lent
   reset-promise κs a = record { ghost = Unit {0}; requires = λ _. emp 𝓤; ensures = λ _ r e. fact 𝓤 (Says (e .0 .now)) }
 
-  abbrev pub reset-step-promise : Clauses 𝓤 reset-step
+  abbrev reset-step-promise : Clauses 𝓤 reset-step
   reset-step-promise κs a = record { ghost = Unit {0}; requires = λ _. emp 𝓤; ensures = λ _ r e. fact 𝓤 (Says r) }
 
   module _ (H : Heap 𝓤) (A : Atoms 𝓤) where

@@ -42,13 +42,13 @@ use Rattle.dac.proofs.Dac as T
 use Rattle.dac.proofs.Dac.Laws as T′
 use Rattle.lent.proofs.Record.{R, held, heldAs}
 
-abbrev pub write-lent : Ended
+abbrev write-lent : Ended
 write-lent = record {
   signature = record { lifetimes = 1; outlives = []; params = RefMutOf (0 ∷ []) tt (plain (λ _. R)) (λ _. tt) ∷ plain (λ _. u8) ∷ []; result = plain (λ _. unit) };
   kept = (yes, (yes, tt));
 }
 
-abbrev pub write-step : Ended
+abbrev write-step : Ended
 write-step = record {
   signature = record { lifetimes = 0; outlives = []; params = plain (λ _. R) ∷ plain (λ _. u8) ∷ []; result = plain (λ _. R) };
   kept = (yes, (yes, tt));
@@ -57,7 +57,7 @@ write-step = record {
 abbrev write-stays : Stays (write-lent .signature .params) (write-lent .kept)
 write-stays = (stay-ref (0 ∷ []) tt (plain (λ _. R)), (stay-none (λ _. u8) yes, tt))
 
-abbrev pub write-code : Name → Fn
+abbrev write-code : Name → Fn
 write-code g = record {
   lifetimes = 1;
   outlives = [];
@@ -71,10 +71,10 @@ write-code g = record {
 
 -- what is said of the record before, the byte and the record after: by the function, and by the step
 module _ (Says : Dac → ℕ → Dac → Type 0) {M : Type 1} (𝓤 : URA M) where
-  abbrev pub write-promise : Clauses 𝓤 write-lent
+  abbrev write-promise : Clauses 𝓤 write-lent
   write-promise κs a = record { ghost = Unit {0}; requires = λ _. emp 𝓤; ensures = λ _ r e. fact 𝓤 (Says (a .0 .now) (a .1 .0) (e .0 .now)) }
 
-  abbrev pub write-step-promise : Clauses 𝓤 write-step
+  abbrev write-step-promise : Clauses 𝓤 write-step
   write-step-promise κs a = record { ghost = Unit {0}; requires = λ _. emp 𝓤; ensures = λ _ r e. fact 𝓤 (Says (a .0) (a .1 .0) r) }
 
   module _ (H : Heap 𝓤) (A : Atoms 𝓤) where
