@@ -1,10 +1,8 @@
 -- No second answer meets a promise of the C face.
 -- Assumes nothing.
-use mathlib.Core.Path.{_≡_, refl, sym, ap, _∙_}
-use Rattle.laws.specs.Said.{Said}
-use Rattle.laws.proofs.Determined.{Determines, both-say, told-apart}
-use Rattle.dirgeflint.specs.Face.{told}
-use Rattle.dirgeflint.specs.declared.Answer.{Answer}
+use mathlib.Core.Path.{refl, sym, ap, _∙_}
+use Rattle.laws.proofs.Determined.{Determines, both-say}
+use Rattle.answer.proofs.Unique.{one-answer}
 use Rattle.dac.specs.declared.Dac.{Dac}
 use Rattle.dirgeflint.proofs.dac_face.dirgeflint_dac_reset as dac-reset
 use Rattle.dirgeflint.proofs.dac_face.dirgeflint_dac_write_low as dac-write-low
@@ -19,13 +17,6 @@ use Rattle.dirgeflint.proofs.hex_face.dirgeflint_hex_read as hex-read
 use Rattle.dirgeflint.proofs.hex_face.dirgeflint_image_to_font as image-to-font
 use Rattle.dirgeflint.proofs.pulse_face.dirgeflint_pulse_level as pulse-level
 use Rattle.dirgeflint.proofs.writer_face.dirgeflint_hex_write as hex-write
-
--- the struct that tells this
-abbrev telling : Said → Answer
-telling s = record { number = s .number; place = s .place; value = s .value }
-
-one-answer : (x y : Answer) → told x ≡ told y → x ≡ y
-one-answer = told-apart told telling (λ x. refl)
 
 pub dirgeflint-pulse-level-unique : Determines pulse-level.ended (λ w. pulse-level.clauses (w .𝓤) (w .H) (w .𝓖 .A) (w .𝓜 .mem) (w .𝓡 .run))
 dirgeflint-pulse-level-unique w κs a g g′ r r′ ws ws′ = both-say w (λ p q. (one-answer r r′ (p ∙ sym q), refl))

@@ -4,8 +4,8 @@ ghost use mathlib.Core.Path.{_≡_};
 ghost use lib.ListN.{length};
 ghost use Rattle.dac.specs.Steps.{afterReset, lowWritten, highWritten};
 ghost use Rattle.dac.specs.Play.{answerOf, afterPlay, lentAfter, said};
-ghost use Rattle.dirgeflint.specs.Face.{told};
-use crate::Answer;
+ghost use Rattle.answer.specs.Told.{told};
+use answer::Answer;
 use dac::Dac;
 use dac::Played;
 
@@ -38,40 +38,17 @@ pub extern "C" fn dirgeflint_dac_play(running: &mut Dac, clocks: u32, levels: &m
     ensures { λ r. ⌜ (told r ≡ answerOf clocks (length (now (levels .entry)))) × (now (running .exit) ≡ afterPlay (now (running .entry)) clocks (length (now (levels .entry)))) × (now (levels .exit) ≡ lentAfter (now (running .entry)) clocks (now (levels .entry))) ⌝ }
 {
     let before = *running;
-    let told = play_told(before, clocks, levels);
-    *running = told.after;
-    told.answer
-}
-
-// The record after a play, and what C is told of it.
-pub struct PlayTold {
-    pub after: Dac,
-    pub answer: Answer,
-}
-
-fn play_told(before: Dac, clocks: u32, levels: &mut [u8]) -> PlayTold
-    ensures { λ r. ⌜ (told (r .answer) ≡ answerOf clocks (length (now (levels .entry)))) × (r .after ≡ afterPlay before clocks (length (now (levels .entry)))) × (now (levels .exit) ≡ lentAfter before clocks (now (levels .entry))) ⌝ }
-{
     let played = dac::play(before, clocks, levels);
-    let after = played.after;
+    *running = played.after;
     let case = played.answer;
-    let answer = played_answer(case);
-    PlayTold { after, answer }
+    played_answer(case)
 }
 
 fn played_answer(played: Played) -> Answer
     ensures { λ r. ⌜ told r ≡ said played ⌝ }
 {
     match played {
-        Played::All => Answer {
-            number: 0,
-            place: 0,
-            value: 0,
-        },
-        Played::TooMany => Answer {
-            number: 14,
-            place: 0,
-            value: 0,
-        },
+        Played::All => answer::accepted(0),
+        Played::TooMany => answer::refused(14, 0),
     }
 }

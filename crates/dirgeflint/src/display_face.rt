@@ -2,8 +2,8 @@
 ghost use mathlib.Core.Path.{_≡_};
 ghost use lib.ListN.{length};
 ghost use Rattle.display.specs.Painting.{answerOf, leftBy, said};
-ghost use Rattle.dirgeflint.specs.Face.{told};
-use crate::Answer;
+ghost use Rattle.answer.specs.Told.{told};
+use answer::Answer;
 use display::Dots;
 use display::Lines;
 use display::Painted;
@@ -37,23 +37,13 @@ pub extern "C" fn dirgeflint_paint(
 fn painted_answer(painted: Painted) -> Answer
     ensures { λ r. ⌜ told r ≡ said painted ⌝ }
 {
-    Answer {
-        number: painted_number(painted),
-        place: 0,
-        value: 0,
-    }
-}
-
-fn painted_number(painted: Painted) -> u32
-    ensures { λ r. ⌜ r ≡ said painted .number ⌝ }
-{
     match painted {
-        Painted::Done => 0,
-        Painted::BadSetting => 1,
-        Painted::ReservedRatio => 2,
-        Painted::BadWords => 3,
-        Painted::BadFont => 4,
-        Painted::OffScreen => 5,
-        Painted::NoRoom => 6,
+        Painted::Done => answer::accepted(0),
+        Painted::BadSetting => answer::refused(1, 0),
+        Painted::ReservedRatio => answer::refused(2, 0),
+        Painted::BadWords => answer::refused(3, 0),
+        Painted::BadFont => answer::refused(4, 0),
+        Painted::OffScreen => answer::refused(5, 0),
+        Painted::NoRoom => answer::refused(6, 0),
     }
 }

@@ -6,12 +6,3 @@ mod hex_face;
 mod port_face;
 mod pulse_face;
 mod writer_face;
-
-// What a call that can refuse answers: number 0 if it was accepted, else document 01's number of the refusal, with its place; and the value
-// that an accepted call gives.
-#[repr(C)]
-pub struct Answer {
-    pub number: u32,
-    pub place: u32,
-    pub value: u32,
-}

@@ -1,8 +1,8 @@
 // The eight small outputs.
 ghost use mathlib.Core.Path.{_≡_};
-ghost use Rattle.dirgeflint.specs.Face.{told};
+ghost use Rattle.answer.specs.Told.{told};
 ghost use Rattle.pulse.specs.Pulse.{answerOf, said};
-use crate::Answer;
+use answer::Answer;
 use pulse::Level;
 
 // The level of a channel at clock t of its period, after byte was written to it: value 1 if high, 0 if low.
@@ -17,20 +17,8 @@ fn level_answer(level: Level) -> Answer
     ensures { λ r. ⌜ told r ≡ said level ⌝ }
 {
     match level {
-        Level::Low => Answer {
-            number: 0,
-            place: 0,
-            value: 0,
-        },
-        Level::High => Answer {
-            number: 0,
-            place: 0,
-            value: 1,
-        },
-        Level::NoSuchClock => Answer {
-            number: 15,
-            place: 0,
-            value: 0,
-        },
+        Level::Low => answer::accepted(0),
+        Level::High => answer::accepted(1),
+        Level::NoSuchClock => answer::refused(15, 0),
     }
 }

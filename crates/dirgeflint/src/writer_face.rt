@@ -1,9 +1,9 @@
 // The writer of a font's text.
 ghost use mathlib.Core.Path.{_≡_};
 ghost use lib.ListN.{length};
-ghost use Rattle.dirgeflint.specs.Face.{told};
+ghost use Rattle.answer.specs.Told.{told};
 ghost use Rattle.writer.specs.Writing.{answerOf, leftOf, said};
-use crate::Answer;
+use answer::Answer;
 use writer::Written;
 
 // Writes the text of a font's image into the first 22,540 bytes lent: value 0, or number 4 or 6.
@@ -19,20 +19,8 @@ fn written_answer(written: Written) -> Answer
     ensures { λ r. ⌜ told r ≡ said written ⌝ }
 {
     match written {
-        Written::Done => Answer {
-            number: 0,
-            place: 0,
-            value: 0,
-        },
-        Written::NotAFont => Answer {
-            number: 4,
-            place: 0,
-            value: 0,
-        },
-        Written::NoRoom => Answer {
-            number: 6,
-            place: 0,
-            value: 0,
-        },
+        Written::Done => answer::accepted(0),
+        Written::NotAFont => answer::refused(4, 0),
+        Written::NoRoom => answer::refused(6, 0),
     }
 }

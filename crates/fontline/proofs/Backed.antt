@@ -1,6 +1,6 @@
 -- A line held at the back of its bytes grows at its front: by one byte, by a number's digits, by words.
 -- Assumes nothing.
-use mathlib.Core.Path.{_≡_, sym, _∙_, ap}
+use mathlib.Core.Path.{_≡_, refl, sym, _∙_, ap}
 use mathlib.Core.Bool.{Bool, true, false}
 use mathlib.Core.List.{List, [], _∷_, _++_}
 use Prim.Native.Nat.{ℕ, zero, suc, _+_, _-_, _/_, _%_, _^_, _<_, _≤_}
@@ -12,19 +12,25 @@ use lib.Seq.{set-at, append-snoc, drop-cons}
 use borrow.Author.Tests.{lt-ltb, le-ltb}
 use Rattle.laws.specs.Pick.{pick}
 use Rattle.laws.specs.Said.{Said}
-use Rattle.fontline.specs.Lines.{lineWith, lineFor, digitsBefore, decimal, cellsBytes, refusedWord, atWord}
+use Rattle.hex.specs.Lines.{LF}
+use Rattle.fontline.specs.Lines.{lineWith, lineFor, digitsBefore, decimal, cellsBytes, refusedWord, atWord, room}
 use Rattle.fontline.specs.declared.Line.{Line}
 
-pub line-start : (line : Line) (l : List ℕ) → line ≡ lineWith l → line .start ≡ 36 - length l
+pub line-start : (line : Line) (l : List ℕ) → line ≡ lineWith l → line .start ≡ room - length l
 unfolding lineWith
 line-start line l e = ap (λ (x : Line). x .start) e
 
-pub line-bytes : (line : Line) (l : List ℕ) → line ≡ lineWith l → line .bytes ≡ replicate (36 - length l) 0 ++ l
+pub line-bytes : (line : Line) (l : List ℕ) → line ≡ lineWith l → line .bytes ≡ replicate (room - length l) 0 ++ l
 unfolding lineWith
 line-bytes line l e = ap (λ (x : Line). x .bytes) e
 
+-- a line that is its end alone
+pub line-end : _≡_ {A = Line} (record { bytes = set (replicate room 0) (room - 1) LF; start = room - 1 }) (lineWith (LF ∷ []))
+unfolding lineWith
+line-end = refl
+
 -- one byte more, over one of the zeros
-one-more : (l : List ℕ) (byte q : ℕ) → 36 - length l ≡ q + 1 → set (replicate (36 - length l) 0 ++ l) q byte ≡ replicate q 0 ++ (byte ∷ l)
+one-more : (l : List ℕ) (byte q : ℕ) → room - length l ≡ q + 1 → set (replicate (room - length l) 0 ++ l) q byte ≡ replicate q 0 ++ (byte ∷ l)
 one-more l byte q e =
     ap (λ n. set (replicate n 0 ++ l) q byte) e
     ∙ ap (λ (z : List ℕ). set (z ++ l) q byte) (sym (replicate-append-replicate {A = ℕ} q 1 0))
@@ -35,10 +41,10 @@ pub line-before : (line : Line) (byte : ℕ) → 0 < line .start → (l : List �
     → _≡_ {A = Line} (record { bytes = set (line .bytes) (line .start - 1) byte; start = line .start - 1 }) (lineWith (byte ∷ l))
 unfolding lineWith
 line-before line byte some l e =
-    let at : line .start - 1 ≡ 36 - suc (length l) = omega (arith, line-start line l e) in
-    let new : set (line .bytes) (line .start - 1) byte ≡ replicate (36 - suc (length l)) 0 ++ (byte ∷ l) =
-    ap (λ (b : List ℕ). set b (line .start - 1) byte) (line-bytes line l e) ∙ ap (λ q. set (replicate (36 - length l) 0 ++ l) q byte) at
-    ∙ one-more l byte (36 - suc (length l)) (omega (arith, line-start line l e)) in
+    let at : line .start - 1 ≡ room - suc (length l) = omega (arith, line-start line l e) in
+    let new : set (line .bytes) (line .start - 1) byte ≡ replicate (room - suc (length l)) 0 ++ (byte ∷ l) =
+    ap (λ (b : List ℕ). set b (line .start - 1) byte) (line-bytes line l e) ∙ ap (λ q. set (replicate (room - length l) 0 ++ l) q byte) at
+    ∙ one-more l byte (room - suc (length l)) (omega (arith, line-start line l e)) in
     λ i. record { bytes = new i; start = at i }
 
 -- digits: a number of two or more leaves fewer to write
@@ -78,20 +84,20 @@ digits-fit (suc k) n tail = go (ltb n 10) (digits-fit k (n / 10) ((48 + n % 10) 
     go true h = omega arith
     go false h = omega arith
 
-line-fits : (s : Said) → length (lineFor s) ≤ 36
+line-fits : (s : Said) → length (lineFor s) ≤ room
 unfolding lineFor
 line-fits s = go (eqb (s .number) 0)
   where
-    go : (b : Bool) → length (pick b (cellsBytes ++ decimal (s .value) (10 ∷ [])) (refusedWord ++ decimal (s .number) (atWord ++ decimal (s .place) (10 ∷ [])))) ≤ 36
-    go true = omega (arith, digits-fit 10 (s .value) (10 ∷ []))
-    go false = omega (arith, digits-fit 10 (s .number) (atWord ++ decimal (s .place) (10 ∷ [])), digits-fit 10 (s .place) (10 ∷ []))
+    go : (b : Bool) → length (pick b (cellsBytes ++ decimal (s .value) (LF ∷ [])) (refusedWord ++ decimal (s .number) (atWord ++ decimal (s .place) (LF ∷ [])))) ≤ room
+    go true = omega (arith, digits-fit 10 (s .value) (LF ∷ []))
+    go false = omega (arith, digits-fit 10 (s .number) (atWord ++ decimal (s .place) (LF ∷ [])), digits-fit 10 (s .place) (LF ∷ []))
 
-pub line-room : (line : Line) (s : Said) → line ≡ lineWith (lineFor s) → (length (line .bytes) ≡ 36) × (line .start ≤ 36)
+pub line-room : (line : Line) (s : Said) → line ≡ lineWith (lineFor s) → (length (line .bytes) ≡ room) × (line .start ≤ room)
 line-room line s e = (
-  ap length (line-bytes line (lineFor s) e) ∙ length-append (replicate (36 - length (lineFor s)) 0) (lineFor s)
-      ∙ ap (λ n. n + length (lineFor s)) (length-replicate {A = ℕ} (36 - length (lineFor s)) 0) ∙ whole,
+  ap length (line-bytes line (lineFor s) e) ∙ length-append (replicate (room - length (lineFor s)) 0) (lineFor s)
+      ∙ ap (λ n. n + length (lineFor s)) (length-replicate {A = ℕ} (room - length (lineFor s)) 0) ∙ whole,
   omega (arith, line-start line (lineFor s) e),
 )
   where
-    whole : 36 - length (lineFor s) + length (lineFor s) ≡ 36
+    whole : room - length (lineFor s) + length (lineFor s) ≡ room
     whole = omega (arith, line-fits s)

@@ -7,45 +7,48 @@ use native.Mathlib.Omega.{arith}
 use lib.ListN.{length, drop-of-length-le}
 use borrow.Author.Tests.{eq-eqb, ne-eqb}
 use Rattle.laws.specs.Said.{Said, accepted, refused}
+use Rattle.font.specs.Font.{fontRows}
+use Rattle.image.specs.Image.{imageBytes}
 use Rattle.image.specs.Image.{answerOf as turning}
 use Rattle.hex.specs.Reading.{imageIn, leftOf}
 use Rattle.hex.specs.Reading.{answerOf as reading}
-use Rattle.fontline.specs.Lines.{checked, lineFor, told}
-use Rattle.fontline.specs.declared.Told.{Told}
+use Rattle.answer.specs.Told.{told}
+use Rattle.answer.specs.declared.Answer.{Answer}
+use Rattle.fontline.specs.Lines.{checked, lineFor}
 
 number-of : {s s′ : Said} → s ≡ s′ → s .number ≡ s′ .number
 number-of e = ap (λ (s : Said). s .number) e
 
 -- an accepted text fills a room of 8,192 bytes with its image
-pub image-read : (text room : List ℕ) → length room ≡ 8192 → reading text (length room) .number ≡ 0 → leftOf text room ≡ imageIn text
+pub image-read : (text room : List ℕ) → length room ≡ imageBytes → reading text (length room) .number ≡ 0 → leftOf text room ≡ imageIn text
 unfolding leftOf
 image-read text room full e =
     rw (eq-eqb _ 0 e)
-    (ap (λ (l : List ℕ). imageIn text ++ l) (drop-of-length-le room {i = 8192} (omega arith)) ∙ append-nil (imageIn text))
+    (ap (λ (l : List ℕ). imageIn text ++ l) (drop-of-length-le room {i = imageBytes} (omega arith)) ∙ append-nil (imageIn text))
 
 -- a refusal's line tells its number and place alone
-refused-only : (t : Told) → (t .number ≡ 0 → ⊥) → lineFor (refused (t .number) (t .place)) ≡ lineFor (told t)
+refused-only : (a : Answer) → (a .number ≡ 0 → ⊥) → lineFor (refused (a .number) (a .place)) ≡ lineFor (told a)
 unfolding lineFor
-refused-only t h = simp (ne-eqb (t .number) 0 h)
+refused-only a h = simp (ne-eqb (a .number) 0 h)
 
-module _ (text : List ℕ) (read : Told) (is-read : told read ≡ reading text 8192) where
+module _ (text : List ℕ) (read : Answer) (is-read : told read ≡ reading text imageBytes) where
   pub read-refuses : (read .number ≡ 0 → ⊥) → lineFor (refused (read .number) (read .place)) ≡ lineFor (checked text)
   unfolding checked
   read-refuses h =
-      refused-only read h ∙ ap lineFor (is-read ∙ sym (simp (ne-eqb (reading text 8192 .number) 0 (λ e. h (number-of is-read ∙ e)))))
+      refused-only read h ∙ ap lineFor (is-read ∙ sym (simp (ne-eqb (reading text imageBytes .number) 0 (λ e. h (number-of is-read ∙ e)))))
 
-  module _ (fine : read .number ≡ 0) (turned : Told) (is-turned : told turned ≡ turning (imageIn text) 1116) where
-    good : reading text 8192 .number ≡ 0
+  module _ (fine : read .number ≡ 0) (turned : Answer) (is-turned : told turned ≡ turning (imageIn text) fontRows) where
+    good : reading text imageBytes .number ≡ 0
     good = sym (number-of is-read) ∙ fine
 
     pub turning-refuses : (turned .number ≡ 0 → ⊥) → lineFor (refused (turned .number) (turned .place)) ≡ lineFor (checked text)
     unfolding checked
     turning-refuses h =
         refused-only turned h
-        ∙ ap lineFor (is-turned ∙ sym (simp (eq-eqb (reading text 8192 .number) 0 good, ne-eqb (turning (imageIn text) 1116 .number) 0 (λ e. h (number-of is-turned ∙ e)))))
+        ∙ ap lineFor (is-turned ∙ sym (simp (eq-eqb (reading text imageBytes .number) 0 good, ne-eqb (turning (imageIn text) fontRows .number) 0 (λ e. h (number-of is-turned ∙ e)))))
 
     pub both-accept : turned .number ≡ 0 → lineFor (accepted (read .value)) ≡ lineFor (checked text)
     unfolding checked lineFor
     both-accept h =
-        let value : read .value ≡ reading text 8192 .value = ap (λ (s : Said). s .value) is-read in
-        simp (eq-eqb (reading text 8192 .number) 0 good, eq-eqb (turning (imageIn text) 1116 .number) 0 (sym (number-of is-turned) ∙ h), value)
+        let value : read .value ≡ reading text imageBytes .value = ap (λ (s : Said). s .value) is-read in
+        simp (eq-eqb (reading text imageBytes .number) 0 good, eq-eqb (turning (imageIn text) fontRows .number) 0 (sym (number-of is-turned) ∙ h), value)

@@ -10,10 +10,10 @@ use Rattle.laws.specs.Said.{Said}
 use Rattle.font.specs.Font.{fontRows}
 use Rattle.image.specs.Image.{imageBytes}
 use Rattle.image.specs.Image.{answerOf as turning}
+use Rattle.hex.specs.Lines.{LF}
 use Rattle.hex.specs.Reading.{imageIn}
 use Rattle.hex.specs.Reading.{answerOf as reading}
 use Rattle.fontline.specs.declared.Line.{Line}
-use Rattle.fontline.specs.declared.Told.{Told}
 
 -- what the two steps say: the first that refuses, else the count that reading gives
 unfoldable pub checked : List ℕ → Said
@@ -30,9 +30,6 @@ digitsBefore (suc places) n tail = pick (ltb n 10) ((48 + n) ∷ tail) (digitsBe
 -- a number in decimal, before a tail: ten digits are enough for the numbers of an answer
 abbrev pub decimal : ℕ → List ℕ → List ℕ
 decimal n tail = digitsBefore 10 n tail
-
-abbrev pub LF : ℕ
-LF = 10
 
 -- "cells 62 bytes ", "refused " and " at "
 abbrev pub cellsBytes : List ℕ
@@ -56,7 +53,3 @@ room = 36
 
 unfoldable pub lineWith : List ℕ → Line
 lineWith l = record { bytes = replicate (room - length l) 0 ++ l; start = room - length l }
-
--- the numbers of an answer
-abbrev pub told : Told → Said
-told t = record { number = t .number; place = t .place; value = t .value }

@@ -1,6 +1,7 @@
 -- `fontline::accepted_line` meets its contract: the parts are put before one another from the line's end on, and the room is enough.
 -- Assumes nothing.
 use Rattle.fontline.proofs.Backed.{line-start}
+use Rattle.hex.specs.Lines.{LF}
 use Rattle.fontline.specs.Lines.{lineFor}
 use native.Mathlib.Omega.{arith}
 use mathlib.Core.List.{[], _∷_}
@@ -15,10 +16,10 @@ ended-requires : tie.Need-ended-requires
 ended-requires c κs = search needs
 
 number-before-requires : tie.Need-number-before-requires
-number-before-requires c κs = let at = line-start (c .ended .result) (10 ∷ []) (c .ended .ensures) in (omega (arith, at), omega (arith, at))
+number-before-requires c κs = let at = line-start (c .ended .result) (LF ∷ []) (c .ended .ensures) in (omega (arith, at), omega (arith, at))
 
 words-before-requires : tie.Need-words-before-requires
-words-before-requires c κs = let at = line-start (c .before .ended .result) (10 ∷ []) (c .before .ended .ensures) in let done = c .number-before .ensures in
+words-before-requires c κs = let at = line-start (c .before .ended .result) (LF ∷ []) (c .before .ended .ensures) in let done = c .number-before .ensures in
     (omega (arith, at, done .0), done .1)
 
 returns : tie.Need-returns

@@ -1,17 +1,18 @@
--- `fontline::ended` meets its contract: the bytes are the line's, by computation.
+-- `fontline::ended` meets its contract: the byte stands at the back of the zeros.
 -- Assumes nothing.
-use Rattle.fontline.specs.Lines.{lineWith}
-use mathlib.Core.Path.{refl}
+use Rattle.fontline.proofs.Backed.{line-end}
 use borrow.Author.Needs.{needs}
 use Rattle.fontline.proofs.ended.Statement.{statement}
 use Rattle.fontline.proofs.ended.Tie as tie
+
+sub-start : tie.Need-sub-start
+sub-start c = search needs
 
 array-write-bytes : tie.Need-array-write-bytes
 array-write-bytes c = search needs
 
 returns : tie.Need-returns
-unfolding lineWith
-returns c = refl
+returns c = line-end
 
 pub ended-spec : {M : Type 1} → statement M
-ended-spec = tie.close (tie.spec array-write-bytes returns)
+ended-spec = tie.close (tie.spec sub-start array-write-bytes returns)

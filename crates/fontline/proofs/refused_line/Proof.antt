@@ -1,6 +1,7 @@
 -- `fontline::refused_line` meets its contract: the parts are put before one another from the line's end on, and the room is enough.
 -- Assumes nothing.
 use Rattle.fontline.proofs.Backed.{line-start}
+use Rattle.hex.specs.Lines.{LF}
 use Rattle.fontline.specs.Lines.{lineFor}
 use borrow.Author.Tests.{ne-eqb}
 use native.Mathlib.Omega.{arith}
@@ -19,19 +20,19 @@ ended-requires : tie.Need-ended-requires
 ended-requires c κs = search needs
 
 number-before-requires : tie.Need-number-before-requires
-number-before-requires c κs = let at = line-start (c .ended .result) (10 ∷ []) (c .ended .ensures) in (omega (arith, at), omega (arith, at))
+number-before-requires c κs = let at = line-start (c .ended .result) (LF ∷ []) (c .ended .ensures) in (omega (arith, at), omega (arith, at))
 
 words-before-requires : tie.Need-words-before-requires
-words-before-requires c κs = let at = line-start (c .before .ended .result) (10 ∷ []) (c .before .ended .ensures) in let done = c .number-before .ensures in
+words-before-requires c κs = let at = line-start (c .before .ended .result) (LF ∷ []) (c .before .ended .ensures) in let done = c .number-before .ensures in
     (omega (arith, at, done .0), done .1)
 
 number-before-requires-2 : tie.Need-number-before-requires-2
-number-before-requires-2 c κs = let at = line-start (c .before .before .ended .result) (10 ∷ []) (c .before .before .ended .ensures) in
+number-before-requires-2 c κs = let at = line-start (c .before .before .ended .result) (LF ∷ []) (c .before .before .ended .ensures) in
     let first = c .before .number-before .ensures in let done = c .words-before .ensures in
     (omega (arith, at, first .0, done .0), omega (arith, first .1, done .0))
 
 words-before-requires-2 : tie.Need-words-before-requires-2
-words-before-requires-2 c κs = let at = line-start (c .before .before .before .ended .result) (10 ∷ []) (c .before .before .before .ended .ensures) in
+words-before-requires-2 c κs = let at = line-start (c .before .before .before .ended .result) (LF ∷ []) (c .before .before .before .ended .ensures) in
     let first = c .before .before .number-before .ensures in let second = c .before .words-before .ensures in let done = c .number-before2 .ensures in
     (omega (arith, at, first .0, second .0, done .0), done .1)
 

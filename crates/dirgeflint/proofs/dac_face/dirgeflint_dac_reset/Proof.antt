@@ -1,4 +1,4 @@
--- A reset over the step `dac::fresh`: the walk of proofs/Lent.antt, at the step's own promise.
+-- A reset over the step `dac::fresh`: the walk of lent/proofs/Reset. The step's promise is the function's.
 -- Assumes nothing.
 use mathlib.Core.Path.{_≡_}
 use contract.Running.{givenOf, tables, tablesOf}
@@ -8,19 +8,26 @@ use Rattle.dac.specs.declared.Dac.{Dac}
 use Rattle.dac.specs.Steps.{afterReset}
 use Rattle.dac.proofs.fresh.Symbol as step
 use Rattle.dac.proofs.fresh.Met as step-met
-use Rattle.dirgeflint.proofs.Lent.{ResetStep, reset-meets}
+use Rattle.lent.proofs.Reset.{ResetStep, reset-meets}
 use Rattle.dirgeflint.proofs.dac_face.dirgeflint_dac_reset as f
 use Rattle.dirgeflint.proofs.dac_face.dirgeflint_dac_reset.Code as code
 use Rattle.dirgeflint.proofs.dac_face.dirgeflint_dac_reset.Key as key
 use Rattle.dirgeflint.proofs.dac_face.dirgeflint_dac_reset.Statement as stated
 
+-- the step's promise, and the function's own
 abbrev Says : Dac → Type 0
 Says after = after ≡ afterReset
+
+abbrev Claims : Dac → Type 0
+Claims after = after ≡ afterReset
+
+so : (after : Dac) → Says after → Claims after
+so after says = says
 
 pub dirgeflint-dac-reset-spec : {M : Type 1} → stated.statement M
 unfolding code.routine tablesOf
 dirgeflint-dac-reset-spec 𝓤 H 𝓜 𝓖 𝓡 =
     entered 𝓤 H (tripleOf 𝓤 H (𝓖 .A) f.signature (f.spec 𝓤 H (𝓖 .A) (𝓜 .mem) (𝓡 .run)))
     (tables 𝓤 H 𝓜 𝓡 code.env .C) (tables 𝓤 H 𝓜 𝓡 code.env .Λ) key.name code.function (code.unfolded 𝓤 H 𝓜 𝓡)
-    (reset-meets Says step.name 𝓤 H (𝓖 .A) (givenOf 𝓤 H 𝓜 𝓖) (tablesOf 𝓤 H 𝓜 (tables 𝓤 H 𝓜 𝓡 code.env))
+    (reset-meets Says Claims so step.name 𝓤 H (𝓖 .A) (givenOf 𝓤 H 𝓜 𝓖) (tablesOf 𝓤 H 𝓜 (tables 𝓤 H 𝓜 𝓡 code.env))
     (cited 𝓤 H (ResetStep Says 𝓤 H (𝓖 .A)) 𝓜 𝓡 code.env step.name step.routine code.calls-dac·fresh (step-met.met 𝓤 H 𝓜 𝓖 𝓡)))

@@ -1,32 +1,96 @@
--- The number is that of the case, and the painter's cases have neither place nor value.
+-- In each arm the struct tells what is said of the case that was met.
 -- Assumes nothing.
-use Prim.Native.Nat.{ℕ}
-use mathlib.Core.Path.{_≡_, refl, ap, _∙_}
-use borrow.Author.Needs.{needs}
-use Rattle.laws.specs.Said.{Said}
-use Rattle.display.specs.declared.Painted.{Painted}
-use Rattle.display.specs.declared.Painted.the-variants.{Done, BadSetting, ReservedRatio, BadWords, BadFont, OffScreen, NoRoom}
+use mathlib.Core.Path.{sym, _∙_, ap}
 use Rattle.display.specs.Painting.{said}
+use borrow.Author.Needs.{needs}
 use Rattle.dirgeflint.proofs.display_face.painted_answer.Statement.{statement}
 use Rattle.dirgeflint.proofs.display_face.painted_answer.Tie as tie
 
-abbrev numbered : ℕ → Said
-numbered n = record { number = n; place = 0; value = 0 }
+enum-told : tie.Need-enum-told
+enum-told c = search needs
 
-number-only : (r : Painted) → numbered (said r .number) ≡ said r
-number-only Done = refl
-number-only BadSetting = refl
-number-only ReservedRatio = refl
-number-only BadWords = refl
-number-only BadFont = refl
-number-only OffScreen = refl
-number-only NoRoom = refl
+accepted-requires : tie.Need-accepted-requires
+accepted-requires c κs = search needs
 
-painted-number-requires : tie.Need-painted-number-requires
-painted-number-requires c κs = search needs
+enum-told-2 : tie.Need-enum-told-2
+enum-told-2 c = search needs
+
+refused-requires : tie.Need-refused-requires
+refused-requires c κs = search needs
+
+enum-told-3 : tie.Need-enum-told-3
+enum-told-3 c = search needs
+
+refused-requires-2 : tie.Need-refused-requires-2
+refused-requires-2 c κs = search needs
+
+enum-told-4 : tie.Need-enum-told-4
+enum-told-4 c = search needs
+
+refused-requires-3 : tie.Need-refused-requires-3
+refused-requires-3 c κs = search needs
+
+enum-told-5 : tie.Need-enum-told-5
+enum-told-5 c = search needs
+
+refused-requires-4 : tie.Need-refused-requires-4
+refused-requires-4 c κs = search needs
+
+enum-told-6 : tie.Need-enum-told-6
+enum-told-6 c = search needs
+
+refused-requires-5 : tie.Need-refused-requires-5
+refused-requires-5 c κs = search needs
+
+enum-told-7 : tie.Need-enum-told-7
+enum-told-7 c = search needs
+
+refused-requires-6 : tie.Need-refused-requires-6
+refused-requires-6 c κs = search needs
 
 returns : tie.Need-returns
-returns c = ap numbered (c .painted-number .ensures) ∙ number-only (c .before .args .painted)
+returns c = c .accepted .ensures ∙ sym (ap said (c .before .enum-told .given .1))
+
+returns-2 : tie.Need-returns-2
+returns-2 c = c .refused .ensures ∙ sym (ap said (c .before .enum-told2 .given .1))
+
+returns-3 : tie.Need-returns-3
+returns-3 c = c .refused2 .ensures ∙ sym (ap said (c .before .enum-told3 .given .1))
+
+returns-4 : tie.Need-returns-4
+returns-4 c = c .refused3 .ensures ∙ sym (ap said (c .before .enum-told4 .given .1))
+
+returns-5 : tie.Need-returns-5
+returns-5 c = c .refused4 .ensures ∙ sym (ap said (c .before .enum-told5 .given .1))
+
+returns-6 : tie.Need-returns-6
+returns-6 c = c .refused5 .ensures ∙ sym (ap said (c .before .enum-told6 .given .1))
+
+returns-7 : tie.Need-returns-7
+returns-7 c = c .refused6 .ensures ∙ sym (ap said (c .before .enum-told7 .given .1))
 
 pub painted-answer-spec : {M : Type 1} → statement M
-painted-answer-spec = tie.close (tie.spec painted-number-requires returns)
+painted-answer-spec =
+    tie.close
+    (tie.spec
+    enum-told
+    accepted-requires
+    enum-told-2
+    refused-requires
+    enum-told-3
+    refused-requires-2
+    enum-told-4
+    refused-requires-3
+    enum-told-5
+    refused-requires-4
+    enum-told-6
+    refused-requires-5
+    enum-told-7
+    refused-requires-6
+    returns
+    returns-2
+    returns-3
+    returns-4
+    returns-5
+    returns-6
+    returns-7)
