@@ -6,4 +6,5 @@ pub mod Overlay
 pub mod Patched
 pub mod Placing
 pub mod Scan
+pub mod Sums
 pub mod Tests

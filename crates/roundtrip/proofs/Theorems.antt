@@ -14,7 +14,7 @@ use Rattle.laws.specs.Pick.{pick}
 use Rattle.laws.specs.Said.{accepted}
 use Rattle.font.specs.Font.{isFont, rowOf}
 use Rattle.laws.specs.Lists.{tabulate}
-use Rattle.image.specs.Image.{imageOf, fontOf, dueAt, hasRow, cellAt, lineAt}
+use Rattle.image.specs.Image.{imageOf, fontOf, halfAt, dueAt, hasRow, cellAt, rowAt}
 use Rattle.image.specs.Image as turning
 use Rattle.laws.proofs.Lists.{length-tabulate}
 use Rattle.image.proofs.Turning.{font-row, font-again, image-accepted, image-again, gives-font}
@@ -59,11 +59,11 @@ text-reads-back image room whole fits = (text-accepted image whole room fits, te
 -- a font's image is 8,192 bytes
 module _ (font : List ℕ) (e : isFont font ≡ true) where
   due-small : (a : ℕ) → dueAt font a < 256
-  unfolding dueAt
-  due-small a = go (hasRow a) (ltb a 4096) (font-row font e (18 * cellAt a + lineAt a))
+  unfolding dueAt halfAt
+  due-small a = go (hasRow a) (ltb a 4096) (font-row font e (18 * cellAt a + rowAt a))
     where
-      go : (b d : Bool) → rowOf font (cellAt a) (lineAt a) ≤ 4095
-          → pick b (pick d (rowOf font (cellAt a) (lineAt a) % 256) (240 + rowOf font (cellAt a) (lineAt a) / 256)) 255 < 256
+      go : (b d : Bool) → rowOf font (cellAt a) (rowAt a) ≤ 4095
+          → pick b (pick d (rowOf font (cellAt a) (rowAt a) % 256) (240 + rowOf font (cellAt a) (rowAt a) / 256)) 255 < 256
       go true true h = omega arith
       go true false h = omega arith
       go false d h = omega arith

@@ -3,7 +3,7 @@
 use borrow.Author.Needs.{needs}
 use Rattle.hex.proofs.Steps.{table-digit, sum-bad, sum-good, sum-more, digits-more}
 use Rattle.hex.specs.Steps.{bytesFrom}
-use Rattle.hex.specs.Lines.{total}
+use Rattle.laws.specs.Sums.{sumAll}
 use Rattle.hex.specs.Digits.{digit, byteAt}
 use Rattle.laws.proofs.Lists.{Filled, filled-none, filled-more, filled-all, length-tabulate}
 use native.Mathlib.Omega.{arith}
@@ -15,14 +15,14 @@ use Rattle.hex.proofs.decode.Statement.{statement}
 use Rattle.hex.proofs.decode.Tie as tie
 
 abbrev Inv-loop : tie.InvT-loop
-Inv-loop digits text from n bytes₀ sum₀ i₀ bytes sum i = (i ≤ n) × Filled (λ k. byteAt text (from + 2 * k)) i bytes bytes₀ × (sum ≡ total (bytesFrom text from i) % 256)
+Inv-loop digits text from n bytes₀ sum₀ i₀ bytes sum i = (i ≤ n) × Filled (λ k. byteAt text (from + 2 * k)) i bytes bytes₀ × (sum ≡ sumAll (bytesFrom text from i) % 256)
     × ((k : ℕ) → k < 2 * i → digit (getD text (from + k) 0) < 16)
 
 abbrev μ-loop : tie.MeasureT-loop
 μ-loop digits text from n bytes₀ sum₀ i₀ bytes sum i = n - i
 
 loop-holds : tie.Need-loop-holds Inv-loop μ-loop
-unfolding total Rattle.laws.specs.Lists.tabulate
+unfolding sumAll Rattle.laws.specs.Lists.tabulate
 loop-holds c = (omega arith, filled-none _ _, refl, λ k h. absurd (omega arith))
 
 mul-high : tie.Need-mul-high Inv-loop μ-loop
@@ -113,7 +113,7 @@ returns-3 : tie.Need-returns-3 Inv-loop μ-loop
 returns-3 c = let a = c .before .before .before .before .before .args in let at = c .before .loop in
     let e : at .i ≡ a .n = omega arith in
     let f : ℕ → ℕ = λ k. byteAt (a .text .now) (a .from + 2 * k) in (
-      at .inv .2 ∙ ap (λ m. total (bytesFrom (a .text .now) (a .from) m) % 256) e
+      at .inv .2 ∙ ap (λ m. sumAll (bytesFrom (a .text .now) (a .from) m) % 256) e
           ∙ sym (sum-good (a .text .now) (a .from) (a .n) (c .before .before .before .before .before .pre .1) (λ k h. at .inv .3 k (omega arith))),
       λ h. ap (take (a .n)) (filled-all f (a .n) (at .i) (at .bytes) _ e (c .before .before .before .before .before .pre .2) (at .inv .1)) ∙ take-at _ _ (a .n) (length-tabulate (a .n) f),
     )

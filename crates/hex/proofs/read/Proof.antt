@@ -1,7 +1,7 @@
 -- `hex::read` meets its contract: the tests of the two lengths, then the verdict that `collect` gives; the room is written only where that is acceptance.
 -- Assumes nothing.
 use Rattle.hex.proofs.Outcomes.{answers, leaves, keeps, not-done}
-use Rattle.hex.specs.Steps.{blank}
+use Rattle.hex.specs.Steps.{unfilled}
 use Rattle.hex.specs.Reading.{answerOf, leftOf, said}
 use native.Mathlib.Omega.{arith}
 use borrow.Author.Tests.{lt-ltb, le-ltb}
@@ -31,7 +31,7 @@ slice-aggregate-collect-3 : tie.Need-slice-aggregate-collect-3
 slice-aggregate-collect-3 c = search needs
 
 collect-requires : tie.Need-collect-requires
-unfolding blank Rattle.laws.specs.Lists.tabulate Rattle.hex.specs.Digits.digit
+unfolding unfilled Rattle.laws.specs.Lists.tabulate Rattle.hex.specs.Digits.digit
 collect-requires c κs = (refl, omega arith, refl, refl)
 
 enum-told : tie.Need-enum-told
