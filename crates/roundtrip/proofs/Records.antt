@@ -30,10 +30,11 @@ small-last : (l : List ℕ) (b : ℕ) → Small l → b < 256 → Small (l ++ (b
 small-last [] b s h = small-cons b [] h (λ i. omega arith)
 small-last (a ∷ l) b s h = small-cons a (l ++ (b ∷ [])) (s 0) (small-last l b (λ i. s (suc i)) h)
 
-pub small-tabulate : (n : ℕ) (f : ℕ → ℕ) → ((k : ℕ) → f k < 256) → Small (tabulate n f)
+pub small-tabulate : (n : ℕ) (f : ℕ → ℕ) → ((k : ℕ) → k < n → f k < 256) → Small (tabulate n f)
 unfolding tabulate
 small-tabulate zero f h = λ i. omega arith
-small-tabulate (suc n) f h = small-cons (f 0) (tabulate n (λ k. f (suc k))) (h 0) (small-tabulate n (λ k. f (suc k)) (λ k. h (suc k)))
+small-tabulate (suc n) f h =
+    small-cons (f 0) (tabulate n (λ k. f (suc k))) (h 0 (omega arith)) (small-tabulate n (λ k. f (suc k)) (λ k l. h (suc k) (omega arith)))
 
 -- what the reader finds in a record
 pub record Parts (kind address count : ℕ) (r : List ℕ) : Type 0 where
@@ -100,7 +101,7 @@ module _ (image : List ℕ) (small : Small image) where
   unfolding recordIn
   data-parts n h =
       record-parts 0 (16 * n) 16 (bytesIn image n) (omega arith) (omega arith) (omega arith) (length-tabulate 16 (λ i. getD image (16 * n + i) 0))
-      (small-tabulate 16 (λ i. getD image (16 * n + i) 0) (λ k. small (16 * n + k)))
+      (small-tabulate 16 (λ i. getD image (16 * n + i) 0) (λ k l. small (16 * n + k)))
 
   -- its byte at an address
   data-byte : (n a : ℕ) → n < 512 → 16 * n ≤ a → a < 16 * n + 16 → dataAt (recordIn image n) a ≡ getD image a 0
