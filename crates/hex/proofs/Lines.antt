@@ -11,12 +11,12 @@ use lib.ListN.{length, getD, take, drop}
 use borrow.Author.Tests.{ne-eqb}
 use Rattle.laws.specs.Pick.{pick, both}
 use Rattle.laws.proofs.Lists.{both-parts}
-use Rattle.hex.specs.Lines.{lines, onto, atEnd, bodyOf}
+use Rattle.hex.specs.Lines.{Plain, lines, onto, atEnd, bodyOf}
 use Rattle.hex.specs.Steps.{endLength}
 
--- neither LF nor CR
-abbrev pub Plain : ℕ → Type 0
-Plain c = (c ≡ 10 → ⊥) × (c ≡ 13 → ⊥)
+pub lines-nil : lines [] ≡ []
+unfolding lines
+lines-nil = refl
 
 not-end : (c : ℕ) (s : List ℕ) → Plain c → atEnd (c ∷ s) ≡ false
 unfolding atEnd

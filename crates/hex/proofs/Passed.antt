@@ -4,7 +4,7 @@
 use mathlib.Core.Path.{_≡_, refl, sym, _∙_, ap}
 use mathlib.Core.Bool.{Bool, true, false, false≢true}
 use mathlib.Core.List.{List, [], _∷_, _++_, map}
-use Prim.Native.Nat.{ℕ, zero, suc, _+_, _-_, _*_, _<_, _≤_}
+use Prim.Native.Nat.{ℕ, zero, suc, _+_, _*_, _<_, _≤_}
 use native.Mathlib.Nat.{not-suc-le-zero, add-zero}
 use native.Mathlib.Numerals.{add-one}
 use native.Mathlib.Omega.{arith}
@@ -26,7 +26,7 @@ use Rattle.hex.specs.Reading.{nth, faultAt, stopsAt, stopOf, judged, ver
 use Rattle.hex.specs.Steps.{unfilled, storedAt, recordAt, nextAt, lineAt}
 use Rattle.hex.specs.declared.Line.{Line}
 use Rattle.hex.specs.declared.Line.the-variants.{Shaped, Unshaped}
-use Rattle.hex.proofs.Lines.{first-body}
+use Rattle.hex.proofs.Lines.{lines-nil, first-body}
 use Rattle.hex.proofs.Shape.{shape-has}
 use Rattle.hex.proofs.Place.{ShapeAt, from-shape, sizeAt, lines-here, next-within, next-here}
 use Rattle.hex.proofs.Given.{spelled-length, scratch-given, stored-all}
@@ -73,10 +73,6 @@ pub take-map : (f : List ℕ → List ℕ) (k : ℕ) (ls : List (List ℕ)) → 
 take-map f zero ls = refl
 take-map f (suc k) [] = refl
 take-map f (suc k) (l ∷ ls) = ap (λ (t : List (List ℕ)). f l ∷ t) (take-map f k ls)
-
-lines-nil : lines [] ≡ []
-unfolding lines
-lines-nil = refl
 
 record-nil : recordOf [] ≡ []
 unfolding spelledBy isShaped bodyOf

@@ -14,9 +14,9 @@ use borrow.Author.Tests.{lt-ltb, ltb-true, eq-eqb, eqb-true}
 use Rattle.laws.specs.Lists.{tabulate}
 use Rattle.laws.proofs.Lists.{both-parts, tabulate-same}
 use Rattle.hex.specs.Digits.{digit, byteAt}
-use Rattle.hex.specs.Lines.{atEnd, bodyOf}
+use Rattle.hex.specs.Lines.{Plain, atEnd, bodyOf}
 use Rattle.hex.specs.Records.{allDigits, isShaped, spelledBy}
-use Rattle.hex.proofs.Lines.{Plain, Cut, body-cut, body-cuts}
+use Rattle.hex.proofs.Lines.{Cut, body-cut, body-cuts}
 
 pub digits-at : (l : List ℕ) → allDigits l ≡ true → (k : ℕ) → k < length l → digit (getD l k 0) < 16
 unfolding allDigits

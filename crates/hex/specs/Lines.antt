@@ -2,6 +2,7 @@
 -- No byte is lost: the lines, each with its end, joined again are the text.
 -- Assumes nothing.
 use Prim.Native.Nat.{ℕ}
+use mathlib.Core.Path.{_≡_}
 use mathlib.Core.Bool.{Bool, true}
 use mathlib.Core.List.{List, [], _∷_, map}
 use lib.Dec.{eqb}
@@ -14,6 +15,10 @@ LF = 10
 
 abbrev pub CR : ℕ
 CR = 13
+
+-- neither
+abbrev pub Plain : ℕ → Type 0
+Plain c = (c ≡ LF → ⊥) × (c ≡ CR → ⊥)
 
 -- one byte more at the front of the first line
 abbrev pub onto : ℕ → List (List ℕ) → List (List ℕ)

@@ -4,8 +4,8 @@
 -- Assumes nothing.
 use mathlib.Core.Path.{_≡_, refl, sym, _∙_, ap, subst}
 use mathlib.Core.Bool.{Bool, true, false}
-use mathlib.Core.List.{List, [], _∷_, _++_, flatMap, append-nil}
-use Prim.Native.Nat.{ℕ, zero, suc, _+_, _-_, _*_, _/_, _%_, _<_, _≤_}
+use mathlib.Core.List.{List, [], _∷_, _++_, flatMap}
+use Prim.Native.Nat.{ℕ, zero, suc, _+_, _-_, _*_, _/_, _%_, _<_}
 use native.Mathlib.Decide.{decLt}
 use native.Mathlib.Omega.{arith}
 use lib.Dec.{eqb, leb}
@@ -20,12 +20,12 @@ use Rattle.laws.proofs.Sums.{sum-last}
 use Rattle.hex.specs.Digits.{among, digit, byteAt}
 use Rattle.hex.specs.Lines.{lines, onto, LF}
 use Rattle.hex.specs.Records.{colon, sumOf}
-use Rattle.writer.specs.Text.{digitText, byteText, bytesText, checksum, recordBytes, recordText, bytesIn, recordIn, endRecord, textOf}
+use Rattle.writer.specs.Text.{digitText, bytesText, checksum, recordBytes, recordText, bytesIn, recordIn, endRecord, textOf}
 use Rattle.writer.proofs.Lists.{flat-append, flat-one}
-use Rattle.writer.proofs.Spelling.{bytes-length, line-length, end-line}
-use Rattle.roundtrip.specs.Form.{isUpper, spelled, IsDataLine, endLine, lineOf, HasWritersForm}
+use Rattle.writer.proofs.Spelling.{bytes-length, end-line}
+use Rattle.roundtrip.specs.Form.{isUpper, spelled, IsDataLine, lineOf, HasWritersForm}
 use Rattle.roundtrip.specs.RoundTrip.{IsImage, IsAnImagesText}
-use Rattle.roundtrip.proofs.Lines.{Small, Good, colon-byte, lines-front, lines-one}
+use Rattle.roundtrip.proofs.Lines.{Small, colon-byte, lines-front, lines-one}
 use Rattle.roundtrip.proofs.Records.{small-tabulate, Parts, data-parts}
 
 -- no byte is lost: the lines joined again are the text
