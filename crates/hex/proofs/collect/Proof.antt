@@ -157,7 +157,7 @@ same-length-14 : tie.Need-same-length-14 Inv-loop μ-loop
 same-length-14 c = search needs
 
 returns-7 : tie.Need-returns-7 Inv-loop μ-loop
-returns-7 c = let first = c .before .before .before .before .before .before in (met-type (met (first .before .before)) (first .if1 .left) (c .before .if2 .left) (c .if6 .taken), λ e. absurd (omega arith))
+returns-7 c = let first = c .before .before .before .before .before .before in (met-type (met (first .before .before)) (first .if1 .left) (c .before .if2 .left) (λ e. omega arith), λ e. absurd (omega arith))
 
 add-if7 : tie.Need-add-if7 Inv-loop μ-loop
 add-if7 c = omega (arith, c .before .before .before .before .before .slice-known4 .given 0, c .before .before .before .before .slice-known5 .given 1, c .before .before .before .slice-known6 .given 2)
@@ -172,7 +172,7 @@ same-length-16 : tie.Need-same-length-16 Inv-loop μ-loop
 same-length-16 c = search needs
 
 returns-8 : tie.Need-returns-8 Inv-loop μ-loop
-returns-8 c = let first = c .before .before .before .before .before .before .before in (met-past (met (first .before .before)) (first .if1 .left) (c .before .before .if2 .left) (c .before .if6 .left) (c .if7 .taken), λ e. absurd (omega arith))
+returns-8 c = let first = c .before .before .before .before .before .before .before in (met-past (met (first .before .before)) (first .if1 .left) (c .before .before .if2 .left) (omega arith) (c .if7 .taken), λ e. absurd (omega arith))
 
 store-requires : tie.Need-store-requires Inv-loop μ-loop
 store-requires c κs = let fits = c .before .before in let parsed = fits .before .before .before .before .before .before .before .before .before .before .before .before .before in (
@@ -192,7 +192,7 @@ loop-less c = omega (arith, met-next (met (c .before .before .before .before .be
 
 loop-again : tie.Need-loop-again Inv-loop μ-loop
 loop-again c = let kept = c .before .before .before .store in let fits = c .before .before .before .before .before .before in let first = fits .before .before .before .before .before .before .before in let parsed = first .before .before .before .before .before .before in let loop = parsed .before .before .before .loop in (
-  rw (kept .ensures .1 (c .if8 .taken)) (met-passed (met (first .before .before)) (first .if1 .left) (fits .before .before .if2 .left) (fits .before .if6 .left) (fits .if7 .left) (sym (c .if8 .taken) ∙ kept .ensures .0)),
+  rw (kept .ensures .1 (c .if8 .taken)) (met-passed (met (first .before .before)) (first .if1 .left) (fits .before .before .if2 .left) (omega arith) (fits .if7 .left) (sym (c .if8 .taken) ∙ kept .ensures .0)),
   parsed .parse .kept .1 .1 .1 .0 ∙ loop .inv .1,
   kept .kept .1 .1 .1 .0 ∙ loop .inv .2,
 )
@@ -208,7 +208,7 @@ same-length-18 c = search needs
 
 returns-9 : tie.Need-returns-9 Inv-loop μ-loop
 returns-9 c = let fits = c .before .before .before .before .before .before in let first = fits .before .before .before .before .before .before .before in
-    (met-twice (met (first .before .before)) (first .if1 .left) (fits .before .before .if2 .left) (fits .before .if6 .left) (fits .if7 .left) (sym (c .if8 .left) ∙ c .before .before .before .store .ensures .0), λ e. absurd (omega arith))
+    (met-twice (met (first .before .before)) (first .if1 .left) (fits .before .before .if2 .left) (omega arith) (fits .if7 .left) (sym (c .if8 .left) ∙ c .before .before .before .store .ensures .0), λ e. absurd (omega arith))
 
 cast-t41 : tie.Need-cast-t41 Inv-loop μ-loop
 cast-t41 c = search needs
