@@ -27,8 +27,8 @@ use Rattle.hex.specs.Steps.{unfilled, storedAt, recordAt, nextAt, lineAt
 use Rattle.hex.specs.declared.Line.{Line}
 use Rattle.hex.specs.declared.Line.the-variants.{Shaped, Unshaped}
 use Rattle.hex.proofs.Lines.{lines-nil, first-body}
-use Rattle.hex.proofs.Shape.{shape-has}
-use Rattle.hex.proofs.Place.{ShapeAt, from-shape, sizeAt, lines-here, next-within, next-here}
+use Rattle.hex.proofs.Shape.{sizeAt, Shape, shape-has}
+use Rattle.hex.proofs.Place.{lines-here, next-within, next-here}
 use Rattle.hex.proofs.Given.{spelled-length, scratch-given, stored-all}
 
 -- a text that is not over has a line
@@ -181,8 +181,8 @@ module _ (text : List ℕ) (at count : ℕ) (scratch : List ℕ) (before : Passe
       unfolding recordAt
       whole-here = spelled-length (bodyOf (drop at text)) shaped
 
-      shape-here : ShapeAt text at
-      shape-here = from-shape text at more (shape-has (drop at text) shaped)
+      shape-here : Shape text at
+      shape-here = shape-has text at shaped
 
       -- where the next line starts, and the lines from there on
       pub next-fits : (nextAt text at ≤ length text) × (at + 11 + 2 * lengthOf (recordAt text at) ≤ nextAt text at)
