@@ -3,6 +3,7 @@
 use Rattle.hex.proofs.Passed.{unfilled-length}
 use Rattle.hex.proofs.Answers.{Met, met-next, met-sum, met-long-end, met-far-end, met-more, met-done, met-all, met-type, met-past, met-twice, met-passed}
 use Rattle.hex.proofs.Faults.{fault-shape}
+use Rattle.laws.proofs.Said.{said-by}
 use borrow.Author.Needs.{needs}
 use Rattle.hex.proofs.Passed.{Passed, passed-none, verdict-over, verdict-fault, line-unshaped}
 use native.Mathlib.Omega.{arith}
@@ -57,8 +58,8 @@ same-length-2 c = search needs
 
 returns : tie.Need-returns Inv-loop μ-loop
 returns c = let parsed = c .before .before .before .before in let loop = parsed .before .before .before .loop in (
-  sym (verdict-fault (parsed .before .before .before .before .before .before .before .before .args .text .now) (loop .at) (loop .count) (loop .scratch) (loop .inv .0) (omega arith) 7 (omega arith)
-      (fault-shape _ _ (line-unshaped _ (loop .at) (sym (c .enum-told .given .1) ∙ parsed .parse .ensures .0)))),
+  said-by (sym (verdict-fault (parsed .before .before .before .before .before .before .before .before .args .text .now) (loop .at) (loop .count) (loop .scratch) (loop .inv .0) (omega arith) 7 (omega arith)
+      (fault-shape _ _ (line-unshaped _ (loop .at) (sym (c .enum-told .given .1) ∙ parsed .parse .ensures .0))))) (omega arith) (omega arith) (omega arith),
   λ e. absurd (omega arith),
 )
 
@@ -72,7 +73,7 @@ same-length-4 : tie.Need-same-length-4 Inv-loop μ-loop
 same-length-4 c = search needs
 
 returns-2 : tie.Need-returns-2 Inv-loop μ-loop
-returns-2 c = (met-sum (met (c .before .before)) (c .if1 .taken), λ e. absurd (omega arith))
+returns-2 c = (said-by (met-sum (met (c .before .before)) (c .if1 .taken)) (omega arith) (omega arith) (omega arith), λ e. absurd (omega arith))
 
 slice-read-n : tie.Need-slice-read-n Inv-loop μ-loop
 slice-read-n c = search needs
@@ -111,7 +112,7 @@ same-length-6 : tie.Need-same-length-6 Inv-loop μ-loop
 same-length-6 c = search needs
 
 returns-3 : tie.Need-returns-3 Inv-loop μ-loop
-returns-3 c = let first = c .before .before .before .before .before .before in (met-long-end (met (first .before .before)) (first .if1 .left) (c .before .if2 .taken) (c .if3 .taken), λ e. absurd (omega arith))
+returns-3 c = let first = c .before .before .before .before .before .before in (said-by (met-long-end (met (first .before .before)) (first .if1 .left) (c .before .if2 .taken) (c .if3 .taken)) (omega arith) (omega arith) (omega arith), λ e. absurd (omega arith))
 
 cast-t29 : tie.Need-cast-t29 Inv-loop μ-loop
 cast-t29 c = search needs
@@ -123,7 +124,7 @@ same-length-8 : tie.Need-same-length-8 Inv-loop μ-loop
 same-length-8 c = search needs
 
 returns-4 : tie.Need-returns-4 Inv-loop μ-loop
-returns-4 c = let first = c .before .before .before .before .before .before .before in (met-far-end (met (first .before .before)) (first .if1 .left) (c .before .before .if2 .taken) (c .before .if3 .left) (c .if4 .taken), λ e. absurd (omega arith))
+returns-4 c = let first = c .before .before .before .before .before .before .before in (said-by (met-far-end (met (first .before .before)) (first .if1 .left) (c .before .before .if2 .taken) (c .before .if3 .left) (c .if4 .taken)) (omega arith) (omega arith) (omega arith), λ e. absurd (omega arith))
 
 cast-t31 : tie.Need-cast-t31 Inv-loop μ-loop
 cast-t31 c = search needs
@@ -135,7 +136,7 @@ same-length-10 : tie.Need-same-length-10 Inv-loop μ-loop
 same-length-10 c = search needs
 
 returns-5 : tie.Need-returns-5 Inv-loop μ-loop
-returns-5 c = let first = c .before .before .before .before .before .before .before .before in (met-more (met (first .before .before)) (first .if1 .left) (c .before .before .before .if2 .taken) (c .before .before .if3 .left) (c .before .if4 .left) (c .if5 .taken), λ e. absurd (omega arith))
+returns-5 c = let first = c .before .before .before .before .before .before .before .before in (said-by (met-more (met (first .before .before)) (first .if1 .left) (c .before .before .before .if2 .taken) (c .before .before .if3 .left) (c .before .if4 .left) (c .if5 .taken)) (omega arith) (omega arith) (omega arith), λ e. absurd (omega arith))
 
 same-length-11 : tie.Need-same-length-11 Inv-loop μ-loop
 same-length-11 c = search needs
@@ -145,7 +146,7 @@ same-length-12 c = search needs
 
 returns-6 : tie.Need-returns-6 Inv-loop μ-loop
 returns-6 c = let first = c .before .before .before .before .before .before .before .before in
-    (met-done (met (first .before .before)) (first .if1 .left) (c .before .before .before .if2 .taken) (c .before .before .if3 .left) (c .before .if4 .left) (c .if5 .left), λ e. met-all (met (first .before .before)) (first .if1 .left) (c .before .before .before .if2 .taken) (c .before .before .if3 .left) (c .before .if4 .left) (c .if5 .left))
+    (said-by (met-done (met (first .before .before)) (first .if1 .left) (c .before .before .before .if2 .taken) (c .before .before .if3 .left) (c .before .if4 .left) (c .if5 .left)) (omega arith) (omega arith) (omega arith), λ e. met-all (met (first .before .before)) (first .if1 .left) (c .before .before .before .if2 .taken) (c .before .before .if3 .left) (c .before .if4 .left) (c .if5 .left))
 
 cast-t32 : tie.Need-cast-t32 Inv-loop μ-loop
 cast-t32 c = search needs
@@ -157,7 +158,7 @@ same-length-14 : tie.Need-same-length-14 Inv-loop μ-loop
 same-length-14 c = search needs
 
 returns-7 : tie.Need-returns-7 Inv-loop μ-loop
-returns-7 c = let first = c .before .before .before .before .before .before in (met-type (met (first .before .before)) (first .if1 .left) (c .before .if2 .left) (λ e. omega arith), λ e. absurd (omega arith))
+returns-7 c = let first = c .before .before .before .before .before .before in (said-by (met-type (met (first .before .before)) (first .if1 .left) (c .before .if2 .left) (λ e. omega arith)) (omega arith) (omega arith) (omega arith), λ e. absurd (omega arith))
 
 add-if7 : tie.Need-add-if7 Inv-loop μ-loop
 add-if7 c = omega (arith, c .before .before .before .before .before .slice-known4 .given 0, c .before .before .before .before .slice-known5 .given 1, c .before .before .before .slice-known6 .given 2)
@@ -172,7 +173,7 @@ same-length-16 : tie.Need-same-length-16 Inv-loop μ-loop
 same-length-16 c = search needs
 
 returns-8 : tie.Need-returns-8 Inv-loop μ-loop
-returns-8 c = let first = c .before .before .before .before .before .before .before in (met-past (met (first .before .before)) (first .if1 .left) (c .before .before .if2 .left) (omega arith) (c .if7 .taken), λ e. absurd (omega arith))
+returns-8 c = let first = c .before .before .before .before .before .before .before in (said-by (met-past (met (first .before .before)) (first .if1 .left) (c .before .before .if2 .left) (omega arith) (c .if7 .taken)) (omega arith) (omega arith) (omega arith), λ e. absurd (omega arith))
 
 store-requires : tie.Need-store-requires Inv-loop μ-loop
 store-requires c κs = let fits = c .before .before in let parsed = fits .before .before .before .before .before .before .before .before .before .before .before .before .before in (
@@ -208,7 +209,7 @@ same-length-18 c = search needs
 
 returns-9 : tie.Need-returns-9 Inv-loop μ-loop
 returns-9 c = let fits = c .before .before .before .before .before .before in let first = fits .before .before .before .before .before .before .before in
-    (met-twice (met (first .before .before)) (first .if1 .left) (fits .before .before .if2 .left) (omega arith) (fits .if7 .left) (sym (c .if8 .left) ∙ c .before .before .before .store .ensures .0), λ e. absurd (omega arith))
+    (said-by (met-twice (met (first .before .before)) (first .if1 .left) (fits .before .before .if2 .left) (omega arith) (fits .if7 .left) (sym (c .if8 .left) ∙ c .before .before .before .store .ensures .0)) (omega arith) (omega arith) (omega arith), λ e. absurd (omega arith))
 
 cast-t41 : tie.Need-cast-t41 Inv-loop μ-loop
 cast-t41 c = search needs
@@ -221,7 +222,7 @@ same-length-20 c = search needs
 
 returns-10 : tie.Need-returns-10 Inv-loop μ-loop
 returns-10 c = let s = c .before .before .before .before .before .before in let at = c .before .loop in
-    (sym (verdict-over (s .args .text .now) (at .at) (at .count) (at .scratch) (at .inv .0) (omega arith)), λ e. absurd (omega arith))
+    (said-by (sym (verdict-over (s .args .text .now) (at .at) (at .count) (at .scratch) (at .inv .0) (omega arith))) (omega arith) (omega arith) (omega arith), λ e. absurd (omega arith))
 
 pub collect-spec : {M : Type 1} → statement M
 collect-spec =

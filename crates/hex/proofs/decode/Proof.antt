@@ -96,10 +96,11 @@ loop-less c = search needs
 loop-again : tie.Need-loop-again Inv-loop μ-loop
 loop-again c = let a = c .before .before .before .before .before .before .before .before .before .before .before .before .args in let at = c .before .before .before .before .before .before .before .before .loop in let p = a .from + 2 * at .i in
     let high = table-digit (a .digits .now) (getD (a .text .now) p 0) (c .before .before .before .before .before .before .before .before .before .before .before .before .pre .0) (omega (arith, c .before .before .before .before .before .before .shared-slice-known3 .given p)) in
-    let low = table-digit (a .digits .now) (getD (a .text .now) (p + 1) 0) (c .before .before .before .before .before .before .before .before .before .before .before .before .pre .0) (omega (arith, c .before .before .before .shared-slice-known5 .given (p + 1))) in (
+    let low = table-digit (a .digits .now) (getD (a .text .now) (p + 1) 0) (c .before .before .before .before .before .before .before .before .before .before .before .before .pre .0) (omega (arith, c .before .before .before .shared-slice-known5 .given (p + 1))) in
+    let byte = 16 * getD (a .digits .now) (getD (a .text .now) p 0) 0 + getD (a .digits .now) (getD (a .text .now) (p + 1) 0) 0 in (
       omega arith,
       filled-more _ (at .i) (at .bytes) _ _ (omega arith) (omega (arith, high, low)) (at .inv .1),
-      sum-more (at .i) (λ k. byteAt (a .text .now) (a .from + 2 * k)) _ _ _ (at .inv .2) (omega (arith, high, low)) (c .wrapping-add-u8 .ensures),
+      sum-more (at .i) (λ k. byteAt (a .text .now) (a .from + 2 * k)) (at .sum) byte _ (at .inv .2) (omega (arith, high, low)) (omega (arith, c .wrapping-add-u8 .ensures)),
       digits-more (a .text .now) (a .from) (at .i) (at .inv .3) (omega (arith, high)) (omega (arith, low)),
     )
 

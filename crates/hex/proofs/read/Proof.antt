@@ -6,7 +6,7 @@ use Rattle.hex.specs.Reading.{answerOf, leftOf, said}
 use native.Mathlib.Omega.{arith}
 use borrow.Author.Tests.{lt-ltb, le-ltb}
 use lib.ListN.{length}
-use mathlib.Core.Path.{refl, _∙_, ap}
+use mathlib.Core.Path.{_≡_, refl, _∙_, ap}
 use borrow.Author.Needs.{needs}
 use Rattle.hex.proofs.read.Statement.{statement}
 use Rattle.hex.proofs.read.Tie as tie
@@ -48,10 +48,10 @@ same-length c = search needs
 
 returns-3 : tie.Need-returns-3
 returns-3 c = let a = c .before .before .before .before .before .before .before .before .before .before .before .before .before .before .before .before .before .args in let called = c .before .before .before .before .before .before .before .before .before .collect in
-    let told = c .before .before .before .before .before .enum-told .given .1 in (
+    let told = c .before .before .before .before .before .enum-told .given .1 in let accepts : said (called .result) .number ≡ 0 = omega (arith, ap (λ x. said x .number) told) in (
       called .ensures .0 ∙ answers (a .text .now) (a .image .now) (c .before .before .before .before .before .before .before .before .before .before .before .before .before .before .if1 .left) (c .before .before .before .before .before .before .before .before .before .before .before .before .before .if2 .left),
       c .before .before .copy-out .ensures
-          ∙ leaves (a .text .now) (a .image .now) (c .before .before .before .before .before .before .before .before .before .before .before .before .before .before .if1 .left) (c .before .before .before .before .before .before .before .before .before .before .before .before .before .if2 .left) (called .result) (called .ensures .0) (ap (λ x. said x .number) told) _ (called .ensures .1 (ap (λ x. said x .number) told)),
+          ∙ leaves (a .text .now) (a .image .now) (c .before .before .before .before .before .before .before .before .before .before .before .before .before .before .if1 .left) (c .before .before .before .before .before .before .before .before .before .before .before .before .before .if2 .left) (called .result) (called .ensures .0) accepts _ (called .ensures .1 accepts),
     )
 
 returns-4 : tie.Need-returns-4
