@@ -1,8 +1,8 @@
--- What records give, and the scratch in which it is collected: a cell below 256 is a byte that a record gave. So a record that overlaps
--- no earlier one can be stored over the scratch, and the cells are then those of the records with it.
+-- What records give, and the scratch in which it is collected: a number below 256 there is a byte that a record gave. So a record that
+-- overlaps no earlier one can be stored over the scratch, and the scratch is then that of the records with it.
 -- Assumes nothing.
 use mathlib.Core.Path.{_≡_, refl, sym, _∙_, ap}
-use mathlib.Core.Bool.{Bool, true, false}
+use mathlib.Core.Bool.{Bool, true, false, false≢true}
 use mathlib.Core.List.{List, [], _∷_, _++_, map}
 use Prim.Native.Nat.{ℕ, _+_, _-_, _*_, _<_}
 use native.Mathlib.Decide.{decLt}
@@ -10,15 +10,16 @@ use native.Mathlib.Omega.{arith}
 use lib.Dec.{eqb, ltb}
 use lib.ListN.{length, getD, take, drop, length-drop, List·getD-eq-default}
 use lib.Seq.{getD-drop, getD-take}
-use borrow.Author.Tests.{lt-ltb, le-ltb, le-leb, lt-leb, eqb-true}
+use borrow.Author.Tests.{lt-ltb, eqb-true}
 use Rattle.laws.specs.Pick.{pick}
 use Rattle.laws.specs.Lists.{tabulate}
+use Rattle.laws.specs.Placing.{spanHas, patched}
 use Rattle.laws.proofs.Lists.{both-parts, getD-tabulate, length-tabulate, tabulate-same}
+use Rattle.laws.proofs.Patched.{span-has}
 use Rattle.hex.specs.Digits.{digit, byteAt}
 use Rattle.hex.specs.Records.{allDigits, isShaped, spelledBy, recordOf, lengthOf, addressOf, gives, dataAt, byteIn, isGiven}
 use Rattle.hex.specs.Steps.{storedAt}
 use Rattle.hex.proofs.Shape.{digits-at}
-use Rattle.hex.proofs.Steps.{stored-in, stored-below, stored-past}
 
 -- a record of a shaped line: its bytes are bytes, and there are as many as its first asks for
 module _ (body : List ℕ) (e : isShaped body ≡ true) where
@@ -55,11 +56,11 @@ record-small body i = go (isShaped body) refl (decLt i (5 + byteAt body 1))
     go true e (no h) = rw (List·getD-eq-default (spelledBy body) 0 {n = i} (omega (arith, ap length (spelled-is body e), length-tabulate (5 + byteAt body 1) (λ i. byteAt body (1 + 2 * i))))) (omega arith)
     go false e d = rw e (omega arith)
 
--- a cell of the scratch tells whether its byte is given
-pub cell-given : (ls : List (List ℕ)) (a : ℕ) → ltb (byteIn 256 (map recordOf ls) a) 256 ≡ isGiven (map recordOf ls) a
+-- the scratch tells whether a byte is given
+pub scratch-given : (ls : List (List ℕ)) (a : ℕ) → ltb (byteIn 256 (map recordOf ls) a) 256 ≡ isGiven (map recordOf ls) a
 unfolding byteIn isGiven
-cell-given [] a = refl
-cell-given (l ∷ ls) a = go (gives (recordOf l) a) (cell-given ls a)
+scratch-given [] a = refl
+scratch-given (l ∷ ls) a = go (gives (recordOf l) a) (scratch-given ls a)
   where
     go : (b : Bool) → ltb (byteIn 256 (map recordOf ls) a) 256 ≡ isGiven (map recordOf ls) a
         → ltb (pick b (dataAt (recordOf l) a) (byteIn 256 (map recordOf ls) a)) 256 ≡ pick b true (isGiven (map recordOf ls) a)
@@ -78,43 +79,34 @@ in-none none [] a e = refl
 in-none none (r ∷ rs) a e = go (gives r a) e (in-none none rs a)
   where
     go : (b : Bool) → pick b true (isGiven rs a) ≡ false → (isGiven rs a ≡ false → byteIn none rs a ≡ none) → pick b (dataAt r a) (byteIn none rs a) ≡ none
-    go true e ih = let z : _≡_ {A = ℕ} 0 1 = cc in absurd (omega arith)
+    go true e ih = absurd (false≢true (sym e))
     go false e ih = ih e
 
 pub in-one : (none : ℕ) (r : List ℕ) (a : ℕ) → byteIn none (r ∷ []) a ≡ pick (gives r a) (dataAt r a) none
 unfolding byteIn
 in-one none r a = refl
 
--- a record of which no byte is given yet, stored over the cells of the records before it
-module _ (rs : List (List ℕ)) (r bytes cells : List ℕ)
+-- a record's bytes where the room for one record has them
+pub front-at : (r bytes : List ℕ) → take (length r) bytes ≡ r → (i : ℕ) → i < length r → getD bytes i 0 ≡ getD r i 0
+front-at r bytes front i h = sym (getD-take (length r) bytes i 0 h) ∙ ap (λ l. getD l i 0) front
+
+-- a record of which no byte is given yet, stored over what the records before it gave
+module _ (rs : List (List ℕ)) (r bytes scratch : List ℕ)
     (front : take (length r) bytes ≡ r) (whole : length r ≡ 5 + lengthOf r)
-    (held : cells ≡ tabulate 8192 (byteIn 256 rs))
+    (held : scratch ≡ tabulate 8192 (byteIn 256 rs))
     (fresh : (i : ℕ) → i < lengthOf r → isGiven rs (addressOf r + i) ≡ false) where
-  pub byte-front : (i : ℕ) → i < length r → getD bytes i 0 ≡ getD r i 0
-  byte-front i h = sym (getD-take (length r) bytes i 0 h) ∙ ap (λ l. getD l i 0) front
-
-  stored-same : (a : ℕ) → a < 8192 → storedAt bytes (addressOf r) (lengthOf r) cells a ≡ byteIn 256 (rs ++ (r ∷ [])) a
-  unfolding gives
-  stored-same a h = go (decLt a (addressOf r)) (decLt a (addressOf r + lengthOf r))
+  stored-same : (a : ℕ) → a < 8192 → storedAt bytes (addressOf r) (lengthOf r) scratch a ≡ byteIn 256 (rs ++ (r ∷ [])) a
+  unfolding gives storedAt patched
+  stored-same a h = go (spanHas (addressOf r) (lengthOf r) a) refl ∙ sym (in-append 256 rs (r ∷ []) a ∙ ap (λ n. byteIn n rs a) (in-one 256 r a))
     where
-      cell : getD cells a 0 ≡ byteIn 256 rs a
-      cell = ap (λ l. getD l a 0) held ∙ getD-tabulate 8192 (byteIn 256 rs) a 0 h
+      go : (b : Bool) → spanHas (addressOf r) (lengthOf r) a ≡ b
+          → pick b (getD bytes (4 + (a - addressOf r)) 0) (getD scratch a 0) ≡ byteIn (pick b (dataAt r a) 256) rs a
+      go true e =
+          let within = span-has (addressOf r) (lengthOf r) a e in
+          let at : addressOf r + (a - addressOf r) ≡ a = omega arith in
+          front-at r bytes front (4 + (a - addressOf r)) (omega arith)
+          ∙ sym (in-none (dataAt r a) rs a (rw (← at) (fresh (a - addressOf r) (omega arith))))
+      go false e = ap (λ l. getD l a 0) held ∙ getD-tabulate 8192 (byteIn 256 rs) a 0 h
 
-      go : Dec (a < addressOf r) → Dec (a < addressOf r + lengthOf r) → storedAt bytes (addressOf r) (lengthOf r) cells a ≡ byteIn 256 (rs ++ (r ∷ [])) a
-      go (yes g) d =
-          stored-below bytes (addressOf r) (lengthOf r) cells a g ∙ cell
-          ∙ sym (in-append 256 rs (r ∷ []) a ∙ ap (λ n. byteIn n rs a) (in-one 256 r a ∙ simp (lt-leb _ _ g)))
-      go (no g) (yes d) =
-          let e : addressOf r + (a - addressOf r) ≡ a = omega arith in
-          stored-in bytes (addressOf r) (lengthOf r) cells a (omega arith) d
-          ∙ byte-front (4 + (a - addressOf r)) (omega arith)
-          ∙ sym (in-append 256 rs (r ∷ []) a
-          ∙ ap (λ n. byteIn n rs a) (in-one 256 r a ∙ simp (le-leb (addressOf r) a (omega arith), lt-ltb _ _ d))
-          ∙ in-none (dataAt r a) rs a (rw (← e) (fresh (a - addressOf r) (omega arith))))
-      go (no g) (no d) =
-          stored-past bytes (addressOf r) (lengthOf r) cells a (omega arith) ∙ cell
-          ∙ sym (in-append 256 rs (r ∷ []) a
-          ∙ ap (λ n. byteIn n rs a) (in-one 256 r a ∙ simp (le-leb (addressOf r) a (omega arith), le-ltb a (addressOf r + lengthOf r) (omega arith))))
-
-  pub stored-all : tabulate 8192 (storedAt bytes (addressOf r) (lengthOf r) cells) ≡ tabulate 8192 (byteIn 256 (rs ++ (r ∷ [])))
+  pub stored-all : tabulate 8192 (storedAt bytes (addressOf r) (lengthOf r) scratch) ≡ tabulate 8192 (byteIn 256 (rs ++ (r ∷ [])))
   stored-all = tabulate-same 8192 _ _ stored-same

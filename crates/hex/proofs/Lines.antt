@@ -1,7 +1,7 @@
 -- Where a line's body ends and what its end is decide the first line of a text: shown by walking the body.
 -- Assumes nothing.
 use mathlib.Core.Path.{_≡_, refl, ap}
-use mathlib.Core.Bool.{Bool, true, false}
+use mathlib.Core.Bool.{Bool, true, false, false≢true}
 use mathlib.Core.List.{List, [], _∷_}
 use Prim.Native.Nat.{ℕ, zero, suc, _+_, _<_, _≤_}
 use native.Mathlib.Nat.{le-of-suc-le-suc, not-suc-le-zero, suc-add, zero-add}
@@ -11,12 +11,12 @@ use lib.ListN.{length, getD, take, drop}
 use borrow.Author.Tests.{ne-eqb}
 use Rattle.laws.specs.Pick.{pick, both}
 use Rattle.laws.proofs.Lists.{both-parts}
-use Rattle.hex.specs.Lines.{lines, onto, atEnd, bodyOf}
+use Rattle.hex.specs.Lines.{Plain, lines, onto, atEnd, bodyOf}
 use Rattle.hex.specs.Steps.{endLength}
 
--- neither LF nor CR
-abbrev pub Plain : ℕ → Type 0
-Plain c = (c ≡ 10 → ⊥) × (c ≡ 13 → ⊥)
+pub lines-nil : lines [] ≡ []
+unfolding lines
+lines-nil = refl
 
 not-end : (c : ℕ) (s : List ℕ) → Plain c → atEnd (c ∷ s) ≡ false
 unfolding atEnd
@@ -64,7 +64,7 @@ end-fits (c ∷ []) e = go (eqb c 10) e
   where
     go : (b : Bool) → pick b true (both (eqb c 13) false) ≡ true → pick b 1 2 ≤ 1
     go true e = omega arith
-    go false e = let z : _≡_ {A = ℕ} 0 1 = cc (both-parts (eqb c 13) false e .1) in absurd (omega arith)
+    go false e = absurd (false≢true (both-parts (eqb c 13) false e .1))
 end-fits (c ∷ (d ∷ s)) e = go (eqb c 10)
   where
     go : (b : Bool) → pick b 1 2 ≤ suc (suc (length s))

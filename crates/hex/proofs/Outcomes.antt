@@ -22,11 +22,11 @@ use Rattle.hex.proofs.Outcome as outcome
 use Rattle.hex.specs.declared.Outcome.the-variants.{Done, NoRoom, BadShape, BadSum, BadType, PastEnd, GivenTwice, BadEnd}
 use Rattle.hex.proofs.Given.{record-small}
 
--- the cells as bytes are the image: FF where no record gives one
-cell-byte : (ls : List (List ℕ)) (a : ℕ) → byteOf (byteIn 256 (map recordOf ls) a) ≡ byteIn 255 (map recordOf ls) a
+-- the scratch as bytes are the image: FF where no record gives one
+scratch-byte : (ls : List (List ℕ)) (a : ℕ) → byteOf (byteIn 256 (map recordOf ls) a) ≡ byteIn 255 (map recordOf ls) a
 unfolding byteIn
-cell-byte [] a = refl
-cell-byte (l ∷ ls) a = go (gives (recordOf l) a) (cell-byte ls a)
+scratch-byte [] a = refl
+scratch-byte (l ∷ ls) a = go (gives (recordOf l) a) (scratch-byte ls a)
   where
     go : (b : Bool) → byteOf (byteIn 256 (map recordOf ls) a) ≡ byteIn 255 (map recordOf ls) a
         → byteOf (pick b (dataAt (recordOf l) a) (byteIn 256 (map recordOf ls) a)) ≡ pick b (dataAt (recordOf l) a) (byteIn 255 (map recordOf ls) a)
@@ -42,14 +42,14 @@ module _ (text room : List ℕ) (long : 8192 ≤ length room) (short : length te
     number : said x .number ≡ answerOf text (length room) .number
     number = ap (λ (s : Said). s .number) (is ∙ answers)
 
-    pub leaves : said x .number ≡ 0 → (cells : List ℕ) → cells ≡ tabulate 8192 (byteIn 256 (records text))
-        → tabulate 8192 (λ i. byteOf (getD cells i 0)) ++ drop 8192 room ≡ leftOf text room
+    pub leaves : said x .number ≡ 0 → (scratch : List ℕ) → scratch ≡ tabulate 8192 (byteIn 256 (records text))
+        → tabulate 8192 (λ i. byteOf (getD scratch i 0)) ++ drop 8192 room ≡ leftOf text room
     unfolding leftOf
-    leaves e cells held =
+    leaves e scratch held =
         rw (eq-eqb _ 0 (sym number ∙ e))
         (ap (λ (l : List ℕ). l ++ drop 8192 room)
         (tabulate-same 8192 _ (byteIn 255 (records text)) (λ a h.
-        ap byteOf (ap (λ (l : List ℕ). getD l a 0) held ∙ getD-tabulate 8192 (byteIn 256 (records text)) a 0 h) ∙ cell-byte (lines text) a)))
+        ap byteOf (ap (λ (l : List ℕ). getD l a 0) held ∙ getD-tabulate 8192 (byteIn 256 (records text)) a 0 h) ∙ scratch-byte (lines text) a)))
 
     pub keeps : (said x .number ≡ 0 → ⊥) → room ≡ leftOf text room
     unfolding leftOf

@@ -2,31 +2,34 @@
 -- records. Each turn of the reader's loop adds one line, and each of its answers is the verdict, by what the next line is.
 -- Assumes nothing.
 use mathlib.Core.Path.{_≡_, refl, sym, _∙_, ap}
-use mathlib.Core.Bool.{Bool, true, false}
+use mathlib.Core.Bool.{Bool, true, false, false≢true}
 use mathlib.Core.List.{List, [], _∷_, _++_, map}
-use Prim.Native.Nat.{ℕ, zero, suc, _+_, _-_, _*_, _<_, _≤_}
+use Prim.Native.Nat.{ℕ, zero, suc, _+_, _*_, _<_, _≤_}
 use native.Mathlib.Nat.{not-suc-le-zero, add-zero}
 use native.Mathlib.Numerals.{add-one}
 use native.Mathlib.Omega.{arith}
 use lib.Dec.{eqb, ltb}
 use lib.ListN.{length, getD, take, drop, length-drop, length-map, length-replicate, getD-replicate, List·getD-map, drop-of-length-le}
-use lib.Seq.{getD-drop, getD-take, drop-drop, take-suc, take-all}
+use lib.Seq.{getD-drop, drop-drop, take-suc, take-all}
 use borrow.Author.Tests.{lt-ltb, le-ltb}
 use borrow.Author.Count.{below-more}
 use Rattle.laws.specs.Pick.{pick}
 use Rattle.laws.specs.Said.{accepted, refused}
 use Rattle.laws.specs.Lists.{tabulate, firstOf}
+use Rattle.laws.specs.Sums.{sumAll}
+use Rattle.laws.proofs.Sums.{sum-take}
 use Rattle.laws.proofs.Lists.{is-tabulate, first-is, first-none, first-same, first-before, getD-tabulate, length-tabulate}
 use Rattle.hex.specs.Digits.{byteAt}
-use Rattle.hex.specs.Lines.{bodyOf, lines, onto, placeOf, total}
+use Rattle.hex.specs.Lines.{bodyOf, lines, onto, placeOf}
 use Rattle.hex.specs.Records.{frame, sumOf, addressOf, isGiven, freshIn, records, recordOf, spelledBy, isShaped, lengthOf, byteIn, countOf, faultOf, isEnd}
 use Rattle.hex.specs.Reading.{nth, faultAt, stopsAt, stopOf, judged, verdict}
-use Rattle.hex.specs.Steps.{blank, storedAt, recordAt, nextAt, lineAt}
+use Rattle.hex.specs.Steps.{unfilled, storedAt, recordAt, nextAt, lineAt}
+use Rattle.hex.specs.declared.Line.{Line}
 use Rattle.hex.specs.declared.Line.the-variants.{Shaped, Unshaped}
-use Rattle.hex.proofs.Lines.{first-body}
-use Rattle.hex.proofs.Shape.{shape-has}
-use Rattle.hex.proofs.Place.{ShapeAt, from-shape, sizeAt, lines-here, next-within, next-here}
-use Rattle.hex.proofs.Given.{spelled-length, cell-given, stored-all}
+use Rattle.hex.proofs.Lines.{lines-nil, first-body}
+use Rattle.hex.proofs.Shape.{sizeAt, Shape, shape-has}
+use Rattle.hex.proofs.Place.{lines-here, next-within, next-here}
+use Rattle.hex.proofs.Given.{spelled-length, scratch-given, stored-all}
 
 -- a text that is not over has a line
 lines-some : (s : List ℕ) → 0 < length s → 0 < length (lines s)
@@ -39,11 +42,14 @@ lines-some (c ∷ s) h = go (eqb c 10) (lines s)
     go false [] = omega arith
     go false (l ∷ ls) = omega arith
 
--- a record's bytes where the scratch for one record has them
-pub front-at : (r bytes : List ℕ) → take (length r) bytes ≡ r → (i : ℕ) → i < length r → getD bytes i 0 ≡ getD r i 0
-front-at r bytes front i h = sym (getD-take (length r) bytes i 0 h) ∙ ap (λ l. getD l i 0) front
-
 -- what a parsed line says
+not-shaped : (sum next : ℕ) → Shaped sum next ≡ Unshaped → ⊥
+not-shaped sum next e = false≢true (sym (ap isLine e))
+  where
+    isLine : Line → Bool
+    isLine (Shaped sum next) = true
+    isLine Unshaped = false
+
 pub line-shaped : (text : List ℕ) (at sum next : ℕ) → Shaped sum next ≡ lineAt text at
     → (isShaped (bodyOf (drop at text)) ≡ true) × (sum ≡ sumOf (recordAt text at)) × (next ≡ nextAt text at)
 unfolding lineAt
@@ -52,7 +58,7 @@ line-shaped text at sum next e = go (isShaped (bodyOf (drop at text))) e
     go : (b : Bool) → Shaped sum next ≡ pick b (Shaped (sumOf (recordAt text at)) (nextAt text at)) Unshaped
         → (b ≡ true) × (sum ≡ sumOf (recordAt text at)) × (next ≡ nextAt text at)
     go true e = (refl, cc, cc)
-    go false e = let z : _≡_ {A = ℕ} 0 1 = cc in absurd (omega arith)
+    go false e = absurd (not-shaped sum next e)
 
 pub line-unshaped : (text : List ℕ) (at : ℕ) → Unshaped ≡ lineAt text at → recordAt text at ≡ []
 unfolding lineAt recordAt spelledBy
@@ -60,48 +66,35 @@ line-unshaped text at e = go (isShaped (bodyOf (drop at text))) e
   where
     go : (b : Bool) → Unshaped ≡ pick b (Shaped (sumOf (recordAt text at)) (nextAt text at)) Unshaped
         → pick b (tabulate (frame + byteAt (bodyOf (drop at text)) 1) (λ i. byteAt (bodyOf (drop at text)) (1 + 2 * i))) [] ≡ []
-    go true e = let z : _≡_ {A = ℕ} 0 1 = cc in absurd (omega arith)
+    go true e = absurd (not-shaped _ _ (sym e))
     go false e = refl
-
--- sums over one element more
-map-append-one : (f : List ℕ → ℕ) (xs : List (List ℕ)) (x : List ℕ) → total (map f (xs ++ (x ∷ []))) ≡ total (map f xs) + f x
-unfolding total
-map-append-one f [] x = omega arith
-map-append-one f (y ∷ xs) x = omega (arith, map-append-one f xs x)
-
-pub total-take : (f : List ℕ → ℕ) (ls : List (List ℕ)) (k : ℕ) → k < length ls → total (map f (take (k + 1) ls)) ≡ total (map f (take k ls)) + f (getD ls k [])
-total-take f ls k h = rw (add-one k, take-suc ls k [] h) (map-append-one f (take k ls) (getD ls k []))
 
 pub take-map : (f : List ℕ → List ℕ) (k : ℕ) (ls : List (List ℕ)) → take k (map f ls) ≡ map f (take k ls)
 take-map f zero ls = refl
 take-map f (suc k) [] = refl
 take-map f (suc k) (l ∷ ls) = ap (λ (t : List (List ℕ)). f l ∷ t) (take-map f k ls)
 
-lines-nil : lines [] ≡ []
-unfolding lines
-lines-nil = refl
-
 record-nil : recordOf [] ≡ []
 unfolding spelledBy isShaped bodyOf
 record-nil = refl
 
-pub blank-length : length blank ≡ 8192
-unfolding blank
-blank-length = length-replicate {A = ℕ} 8192 256
+pub unfilled-length : length unfilled ≡ 8192
+unfolding unfilled
+unfilled-length = length-replicate {A = ℕ} 8192 256
 
-pub record Passed (text : List ℕ) (at count : ℕ) (cells : List ℕ) : Type 0 where
+pub record Passed (text : List ℕ) (at count : ℕ) (scratch : List ℕ) : Type 0 where
   pub k : ℕ
   pub rest : lines (drop at text) ≡ drop k (lines text)
   pub place : at ≡ placeOf (lines text) k
   pub within : at ≤ length text
   pub past : (j : ℕ) → j < k → stopsAt (records text) j ≡ false
   pub passed : k ≤ length (lines text)
-  pub held : cells ≡ tabulate 8192 (byteIn 256 (take k (records text)))
+  pub held : scratch ≡ tabulate 8192 (byteIn 256 (take k (records text)))
   pub counted : count ≡ countOf (take k (records text))
   pub bounded : count ≤ at
 
-pub passed-none : (text : List ℕ) → Passed text 0 0 blank
-unfolding blank byteIn total
+pub passed-none : (text : List ℕ) → Passed text 0 0 unfilled
+unfolding unfilled byteIn sumAll
 passed-none text =
     record {
       k = 0;
@@ -110,12 +103,12 @@ passed-none text =
       within = omega arith;
       past = λ j h. absurd (not-suc-le-zero h);
       passed = omega arith;
-      held = is-tabulate 0 8192 (λ a. 256) blank blank-length (λ a h. getD-replicate {A = ℕ} 8192 a 256 0 h);
+      held = is-tabulate 0 8192 (λ a. 256) unfilled unfilled-length (λ a h. getD-replicate {A = ℕ} 8192 a 256 0 h);
       counted = refl;
       bounded = omega arith;
     }
 
-module _ (text : List ℕ) (at count : ℕ) (cells : List ℕ) (before : Passed text at count cells) where
+module _ (text : List ℕ) (at count : ℕ) (scratch : List ℕ) (before : Passed text at count scratch) where
   rs-length : length (records text) ≡ length (lines text)
   rs-length = length-map (lines text) recordOf
 
@@ -148,7 +141,7 @@ module _ (text : List ℕ) (at count : ℕ) (cells : List ℕ) (before : Passed 
     next-place : placeOf (lines text) (before .k + 1) ≡ nextAt text at
     unfolding nextAt
     next-place =
-        total-take length (lines text) (before .k) (omega (arith, rs-length, k-below))
+        sum-take length [] (lines text) (before .k) (omega (arith, rs-length, k-below))
         ∙ ap (λ n. n + length (getD (lines text) (before .k) [])) (sym (before .place)) ∙ ap (λ (l : List ℕ). at + length l) line-here
 
     fault-here : faultAt (records text) (before .k) ≡ faultOf (take (before .k) (records text)) (recordAt text at)
@@ -177,7 +170,7 @@ module _ (text : List ℕ) (at count : ℕ) (cells : List ℕ) (before : Passed 
         unfolding judged
         verdict-done h l =
             let whole : countOf (records text) ≡ count =
-            ap countOf (sym (take-all (before .k + 1) (records text) h)) ∙ total-take lengthOf (records text) (before .k) k-below
+            ap countOf (sym (take-all (before .k + 1) (records text) h)) ∙ sum-take lengthOf [] (records text) (before .k) k-below
             ∙ ap (λ n. n + lengthOf (nth (records text) (before .k))) (sym (before .counted)) ∙ ap (λ (r : List ℕ). count + lengthOf r) record-here
             ∙ ap (λ n. count + n) l ∙ add-zero count in
             rw (stop-end, lt-ltb _ _ k-below, fault-here ∙ good, le-ltb _ _ h, whole)
@@ -188,8 +181,8 @@ module _ (text : List ℕ) (at count : ℕ) (cells : List ℕ) (before : Passed 
       unfolding recordAt
       whole-here = spelled-length (bodyOf (drop at text)) shaped
 
-      shape-here : ShapeAt text at
-      shape-here = from-shape text at more (shape-has (drop at text) shaped)
+      shape-here : Shape text at
+      shape-here = shape-has text at shaped
 
       -- where the next line starts, and the lines from there on
       pub next-fits : (nextAt text at ≤ length text) × (at + 11 + 2 * lengthOf (recordAt text at) ≤ nextAt text at)
@@ -211,17 +204,17 @@ module _ (text : List ℕ) (at count : ℕ) (cells : List ℕ) (before : Passed 
       not-last h =
           omega (arith, rs-length, lines-some (drop (nextAt text at) text) (omega (arith, length-drop (nextAt text at) text)), ap length next-rest, length-drop (before .k + 1) (lines text))
 
-      -- its bytes, in the scratch for one record; n of them are data, from an address on
+      -- its bytes, in the room for one record; n of them are data, from an address on
       module _ (bytes : List ℕ) (front : take (length (recordAt text at)) bytes ≡ recordAt text at) (n address : ℕ)
           (sized : n ≡ lengthOf (recordAt text at)) (placed : address ≡ addressOf (recordAt text at)) (fits : address + n ≤ 8192) where
-        -- the cells tell which bytes are given already
-        pub fresh-here : firstOf n (λ i. ltb (getD cells (address + i) 0) 256) ≡ freshIn (take (before .k) (records text)) (recordAt text at)
+        -- the scratch tells which bytes are given already
+        pub fresh-here : firstOf n (λ i. ltb (getD scratch (address + i) 0) 256) ≡ freshIn (take (before .k) (records text)) (recordAt text at)
         fresh-here =
             first-same n _ (λ i. isGiven (take (before .k) (records text)) (address + i)) (λ i h.
             let e : take (before .k) (records text) ≡ map recordOf (take (before .k) (lines text)) = take-map recordOf (before .k) (lines text) in
             ap (λ l. ltb (getD l (address + i) 0) 256) (before .held)
             ∙ ap (λ x. ltb x 256) (getD-tabulate 8192 (byteIn 256 (take (before .k) (records text))) (address + i) 0 (omega arith))
-            ∙ ap (λ (rs : List (List ℕ)). ltb (byteIn 256 rs (address + i)) 256) e ∙ cell-given (take (before .k) (lines text)) (address + i)
+            ∙ ap (λ (rs : List (List ℕ)). ltb (byteIn 256 rs (address + i)) 256) e ∙ scratch-given (take (before .k) (lines text)) (address + i)
             ∙ ap (λ (rs : List (List ℕ)). isGiven rs (address + i)) (sym e))
             ∙ ap (λ m. firstOf m (λ i. isGiven (take (before .k) (records text)) (address + i))) sized
             ∙ ap (λ a. firstOf (lengthOf (recordAt text at)) (λ i. isGiven (take (before .k) (records text)) (a + i))) placed
@@ -229,7 +222,7 @@ module _ (text : List ℕ) (at count : ℕ) (cells : List ℕ) (before : Passed 
         -- one line more is passed
         pub passed-more : isEnd (recordAt text at) ≡ false → faultOf (take (before .k) (records text)) (recordAt text at) ≡ 0
             → lengthOf (recordAt text at) ≤ freshIn (take (before .k) (records text)) (recordAt text at)
-            → Passed text (nextAt text at) (count + n) (tabulate 8192 (storedAt bytes address n cells))
+            → Passed text (nextAt text at) (count + n) (tabulate 8192 (storedAt bytes address n scratch))
         passed-more no-end good fresh =
             record {
               k = before .k + 1;
@@ -239,14 +232,14 @@ module _ (text : List ℕ) (at count : ℕ) (cells : List ℕ) (before : Passed 
               past = below-more (λ j. stopsAt (records text) j ≡ false) (before .k) (before .past) (rw (fault-here ∙ good) (rw record-here no-end));
               passed = omega (arith, rs-length, k-below);
               held =
-                  ap (λ m. tabulate 8192 (storedAt bytes address m cells)) sized
-                  ∙ ap (λ a. tabulate 8192 (storedAt bytes a (lengthOf (recordAt text at)) cells)) placed
-                  ∙ stored-all (take (before .k) (records text)) (recordAt text at) bytes cells front whole-here (before .held)
+                  ap (λ m. tabulate 8192 (storedAt bytes address m scratch)) sized
+                  ∙ ap (λ a. tabulate 8192 (storedAt bytes a (lengthOf (recordAt text at)) scratch)) placed
+                  ∙ stored-all (take (before .k) (records text)) (recordAt text at) bytes scratch front whole-here (before .held)
                   (λ i h. first-before (lengthOf (recordAt text at)) (λ i. isGiven (take (before .k) (records text)) (addressOf (recordAt text at) + i)) i (omega arith))
                   ∙ sym (ap (λ (rs : List (List ℕ)). tabulate 8192 (byteIn 256 rs)) (ap (λ m. take m (records text)) (add-one (before .k)) ∙ take-suc (records text) (before .k) [] k-below
                   ∙ ap (λ (r : List ℕ). take (before .k) (records text) ++ (r ∷ [])) record-here));
               counted =
-                  sym (total-take lengthOf (records text) (before .k) k-below ∙ ap (λ m. m + lengthOf (nth (records text) (before .k))) (sym (before .counted))
+                  sym (sum-take lengthOf [] (records text) (before .k) k-below ∙ ap (λ m. m + lengthOf (nth (records text) (before .k))) (sym (before .counted))
                   ∙ ap (λ (r : List ℕ). count + lengthOf r) record-here ∙ ap (λ m. count + m) (sym sized));
               bounded = omega (arith, before .bounded, next-fits .1);
             }

@@ -1,22 +1,22 @@
--- The record's shape, told from the bytes at the front of a text: the line's body is what goes from the colon through the last digit asked
--- for, since neither a colon nor a digit is part of a line's end.
+-- The record's shape, told from the bytes of a text from a place on: the body of the line that starts there is what goes from the colon
+-- through the last digit asked for, since neither a colon nor a digit is part of a line's end.
 -- Assumes nothing.
 use mathlib.Core.Path.{_≡_, refl, sym, _∙_, ap}
 use mathlib.Core.Bool.{Bool, true, false}
 use mathlib.Core.List.{List, [], _∷_}
-use Prim.Native.Nat.{ℕ, zero, suc, _+_, _-_, _*_, _<_, _≤_}
-use native.Mathlib.Nat.{le-of-suc-le-suc, not-suc-le-zero}
+use Prim.Native.Nat.{ℕ, zero, suc, _+_, _*_, _<_, _≤_}
+use native.Mathlib.Nat.{le-of-suc-le-suc, not-suc-le-zero, add-zero}
 use native.Mathlib.Omega.{arith}
 use lib.Dec.{eqb, ltb}
 use lib.ListN.{length, getD, take, drop, length-drop}
-use lib.Seq.{getD-take, getD-drop, length-take-le}
+use lib.Seq.{getD-take, getD-drop, drop-drop, length-take-le}
 use borrow.Author.Tests.{lt-ltb, ltb-true, eq-eqb, eqb-true}
 use Rattle.laws.specs.Lists.{tabulate}
 use Rattle.laws.proofs.Lists.{both-parts, tabulate-same}
 use Rattle.hex.specs.Digits.{digit, byteAt}
-use Rattle.hex.specs.Lines.{atEnd, bodyOf}
+use Rattle.hex.specs.Lines.{Plain, atEnd, bodyOf}
 use Rattle.hex.specs.Records.{allDigits, isShaped, spelledBy}
-use Rattle.hex.proofs.Lines.{Plain, Cut, body-cut, body-cuts}
+use Rattle.hex.proofs.Lines.{Cut, body-cut, body-cuts}
 
 pub digits-at : (l : List ℕ) → allDigits l ≡ true → (k : ℕ) → k < length l → digit (getD l k 0) < 16
 unfolding allDigits
@@ -33,70 +33,111 @@ digit-plain : (c : ℕ) → digit c < 16 → Plain c
 unfolding digit
 digit-plain c h = (λ e. omega (arith, ap digit e), λ e. omega (arith, ap digit e))
 
--- a line of the record's shape stands at the front
-pub record Shape (s : List ℕ) : Type 0 where
-  pub begins : getD s 0 0 ≡ 58
-  pub digits : (k : ℕ) → 1 ≤ k → k < 1 + 2 * (5 + byteAt s 1) → digit (getD s k 0) < 16
-  pub reaches : 1 + 2 * (5 + byteAt s 1) ≤ length s
-  pub ends : atEnd (drop (1 + 2 * (5 + byteAt s 1)) s) ≡ true
+-- how many bytes the record of the line that starts at a place asks for
+abbrev pub sizeAt : List ℕ → ℕ → ℕ
+sizeAt text place = 5 + (16 * digit (getD text (place + 1) 0) + digit (getD text (place + 2) 0))
+
+-- a line of the record's shape starts there
+pub record Shape (text : List ℕ) (place : ℕ) : Type 0 where
+  pub begins : getD text place 0 ≡ 58
+  pub digits : (k : ℕ) → k < 2 * sizeAt text place → digit (getD text (place + 1 + k) 0) < 16
+  pub reaches : place + 1 + 2 * sizeAt text place ≤ length text
+  pub ends : atEnd (drop (place + 1 + 2 * sizeAt text place) text) ≡ true
 
 -- digits stay where they are in a front of the text
 byte-front : (s : List ℕ) (m k : ℕ) → k + 1 < m → byteAt (take m s) k ≡ byteAt s k
 byte-front s m k h = rw (getD-take m s k 0 (omega arith), getD-take m s (k + 1) 0 h)
 
-module _ (s : List ℕ) (shape : Shape s) where
-  pub shape-plain : (k : ℕ) → k < 1 + 2 * (5 + byteAt s 1) → Plain (getD s k 0)
-  shape-plain zero h = (λ e. omega (arith, shape .begins), λ e. omega (arith, shape .begins))
-  shape-plain (suc k) h = digit-plain _ (shape .digits (suc k) (omega arith) h)
+module _ (text : List ℕ) (place : ℕ) where
+  -- the text from there on
+  at-drop : (k : ℕ) → getD (drop place text) k 0 ≡ getD text (place + k) 0
+  at-drop k = getD-drop place text k 0
 
-  pub shape-body : bodyOf s ≡ take (1 + 2 * (5 + byteAt s 1)) s
-  shape-body = body-cut (1 + 2 * (5 + byteAt s 1)) s (shape .reaches) shape-plain (shape .ends)
+  at-front : getD (drop place text) 0 0 ≡ getD text place 0
+  at-front = at-drop 0 ∙ ap (λ n. getD text n 0) (add-zero place)
 
-  pub shape-is : isShaped (bodyOf s) ≡ true
+  at-next : (k : ℕ) → getD (drop place text) (1 + k) 0 ≡ getD text (place + 1 + k) 0
+  at-next k = let e : place + (1 + k) ≡ place + 1 + k = omega arith in at-drop (1 + k) ∙ ap (λ n. getD text n 0) e
+
+  byte-here : (k : ℕ) → byteAt (drop place text) (1 + k) ≡ byteAt text (place + 1 + k)
+  byte-here k =
+      let e : place + (1 + k + 1) ≡ place + 1 + k + 1 = omega arith in
+      rw (at-next k, at-drop (1 + k + 1), e)
+
+  size-here : 5 + byteAt (drop place text) 1 ≡ sizeAt text place
+  size-here = rw (at-drop 1, at-drop 2)
+
+  -- how long the line's body is
+  abbrev pub bodySize : ℕ
+  bodySize = 1 + 2 * sizeAt text place
+
+  module _ (shape : Shape text place) where
+    pub body-fits : bodySize ≤ length (drop place text)
+    body-fits = omega (arith, shape .reaches, length-drop place text)
+
+    pub body-plain : (k : ℕ) → k < bodySize → Plain (getD (drop place text) k 0)
+    body-plain zero h = let at = at-front ∙ shape .begins in (λ e. omega arith, λ e. omega arith)
+    body-plain (suc k) h =
+        let one : suc k ≡ 1 + k = omega arith in
+        digit-plain _ (rw (one, at-next k) (shape .digits k (omega arith)))
+
+    pub body-after : drop bodySize (drop place text) ≡ drop (place + 1 + 2 * sizeAt text place) text
+    body-after = let e : place + bodySize ≡ place + 1 + 2 * sizeAt text place = omega arith in drop-drop bodySize place text ∙ ap (λ n. drop n text) e
+
+    pub body-ends : atEnd (drop bodySize (drop place text)) ≡ true
+    body-ends = ap atEnd body-after ∙ shape .ends
+
+    body-is : bodyOf (drop place text) ≡ take bodySize (drop place text)
+    body-is = body-cut bodySize (drop place text) body-fits body-plain body-ends
+
+    pub shape-is : isShaped (bodyOf (drop place text)) ≡ true
+    unfolding isShaped
+    shape-is =
+        let body = take bodySize (drop place text) in
+        let long : length body ≡ bodySize = length-take-le bodySize (drop place text) body-fits in
+        let size = ap (λ n. 5 + n) (byte-front (drop place text) bodySize 1 (omega arith)) ∙ size-here in
+        rw body-is
+        (rw (getD-take bodySize (drop place text) 0 0 (omega arith) ∙ at-front ∙ shape .begins)
+        (rw (digits-all (drop 1 body) (λ k h.
+        let l : 1 + k < bodySize = omega (arith, length-drop 1 body) in
+        rw (getD-drop 1 body k 0 ∙ getD-take bodySize (drop place text) (1 + k) 0 l ∙ at-next k) (shape .digits k (omega arith))))
+        (eq-eqb (length body) (1 + 2 * (5 + byteAt body 1)) (long ∙ ap (λ n. 1 + 2 * n) (sym size)))))
+
+    pub shape-spells : spelledBy (bodyOf (drop place text)) ≡ tabulate (sizeAt text place) (λ i. byteAt text (place + 1 + 2 * i))
+    unfolding spelledBy
+    shape-spells =
+        let body = take bodySize (drop place text) in
+        rw shape-is
+        (rw body-is
+        (ap (λ n. tabulate n (λ i. byteAt body (1 + 2 * i))) (ap (λ n. 5 + n) (byte-front (drop place text) bodySize 1 (omega arith)) ∙ size-here)
+        ∙ tabulate-same (sizeAt text place) _ _ (λ k h. byte-front (drop place text) bodySize (1 + 2 * k) (omega arith) ∙ byte-here (2 * k))))
+
+  -- and no other line has it
+  pub shape-has : isShaped (bodyOf (drop place text)) ≡ true → Shape text place
   unfolding isShaped
-  shape-is =
-      let n = 1 + 2 * (5 + byteAt s 1) in
-      let long : length (take n s) ≡ n = length-take-le n s (shape .reaches) in
-      rw shape-body
-      (rw (getD-take n s 0 0 (omega arith), shape .begins)
-      (rw (digits-all (drop 1 (take n s)) (λ k h. rw (getD-drop 1 (take n s) k 0) (rw (getD-take n s (1 + k) 0 (omega (arith, length-drop 1 (take n s)))) (shape .digits (1 + k) (omega arith) (omega (arith, length-drop 1 (take n s)))))))
-      (rw (byte-front s n 1 (omega arith)) (eq-eqb (length (take n s)) n long))))
-
-  pub shape-spells : spelledBy (bodyOf s) ≡ tabulate (5 + byteAt s 1) (λ i. byteAt s (1 + 2 * i))
-  unfolding spelledBy
-  shape-spells =
-      let n = 1 + 2 * (5 + byteAt s 1) in
-      rw shape-is
-      (rw shape-body
-      (rw (byte-front s n 1 (omega arith)) (tabulate-same (5 + byteAt s 1) (λ i. byteAt (take n s) (1 + 2 * i)) (λ i. byteAt s (1 + 2 * i)) (λ k h. byte-front s n (1 + 2 * k) (omega arith)))))
-
--- and no other line has it
-module _ (s : List ℕ) (e : isShaped (bodyOf s) ≡ true) where
-  pub shape-has : Shape s
-  unfolding isShaped
-  shape-has = go (bodyOf s) (body-cuts s) e
+  shape-has shaped = go (bodyOf (drop place text)) (body-cuts (drop place text)) shaped
     where
-      go : (body : List ℕ) → Cut s body → isShaped body ≡ true → Shape s
+      go : (body : List ℕ) → Cut (drop place text) body → isShaped body ≡ true → Shape text place
       go body cut e =
           let parts = both-parts (eqb (getD body 0 0) 58) _ e in
           let more = both-parts (allDigits (drop 1 body)) (eqb (length body) (1 + 2 * (5 + byteAt body 1))) (parts .1) in
           let long : length body ≡ 1 + 2 * (5 + byteAt body 1) = eqb-true _ _ (more .1) in
-          let at : (k : ℕ) → k < length body → getD body k 0 ≡ getD s k 0 = λ k h. ap (λ l. getD l k 0) (cut .front) ∙ getD-take (length body) s k 0 h in
-          let same : byteAt body 1 ≡ byteAt s 1 = rw (at 1 (omega arith), at 2 (omega arith)) in
-          let size : length body ≡ 1 + 2 * (5 + byteAt s 1) = long ∙ ap (λ n. 1 + 2 * (5 + n)) same in
+          let at : (k : ℕ) → k < length body → getD body k 0 ≡ getD (drop place text) k 0 =
+          λ k h. ap (λ l. getD l k 0) (cut .front) ∙ getD-take (length body) (drop place text) k 0 h in
+          let same : byteAt body 1 ≡ byteAt (drop place text) 1 = rw (at 1 (omega arith), at 2 (omega arith)) in
+          let size : length body ≡ 1 + 2 * sizeAt text place = long ∙ ap (λ n. 1 + 2 * (5 + n)) same ∙ ap (λ n. 1 + 2 * n) size-here in
+          let place-is : place + length body ≡ place + 1 + 2 * sizeAt text place = omega arith in
           record {
-            begins = sym (at 0 (omega arith)) ∙ eqb-true (getD body 0 0) 58 (parts .0);
-            digits = λ k low high.
-                let e1 : 1 + (k - 1) ≡ k = omega arith in
-                rw (← at k (omega arith), ← ap (λ n. getD body n 0) e1, ← getD-drop 1 body (k - 1) 0)
-                (digits-at (drop 1 body) (more .0) (k - 1) (omega (arith, length-drop 1 body)));
-            reaches = omega (arith, cut .within);
-            ends = rw (← size) (cut .ends);
+            begins = sym at-front ∙ sym (at 0 (omega arith)) ∙ eqb-true (getD body 0 0) 58 (parts .0);
+            digits = λ k h.
+                rw (← at-next k, ← at (1 + k) (omega arith), ← getD-drop 1 body k 0) (digits-at (drop 1 body) (more .0) k (omega (arith, length-drop 1 body)));
+            reaches = omega (arith, cut .within, length-drop place text);
+            ends = rw (← place-is, ← drop-drop (length body) place text) (cut .ends);
           }
 
-pub unshaped : (s : List ℕ) → (Shape s → ⊥) → isShaped (bodyOf s) ≡ false
-unshaped s no-shape = go (isShaped (bodyOf s)) refl
-  where
-    go : (b : Bool) → isShaped (bodyOf s) ≡ b → isShaped (bodyOf s) ≡ false
-    go true e = absurd (no-shape (shape-has s e))
-    go false e = e
+  pub unshaped : (Shape text place → ⊥) → isShaped (bodyOf (drop place text)) ≡ false
+  unshaped no-shape = go (isShaped (bodyOf (drop place text))) refl
+    where
+      go : (b : Bool) → isShaped (bodyOf (drop place text)) ≡ b → isShaped (bodyOf (drop place text)) ≡ false
+      go true e = absurd (no-shape (shape-has e))
+      go false e = e

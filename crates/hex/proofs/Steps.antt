@@ -3,21 +3,24 @@
 use mathlib.Core.Path.{_≡_, refl, sym, _∙_, ap}
 use mathlib.Core.Bool.{Bool, true, false, false≢true}
 use mathlib.Core.List.{List}
-use Prim.Native.Nat.{ℕ, zero, suc, _+_, _-_, _*_, _%_, _<_, _≤_}
+use Prim.Native.Nat.{ℕ, suc, _+_, _*_, _%_, _<_, _≤_}
 use native.Mathlib.Nat.{mod-add-mod, add-zero}
-use native.Mathlib.Numerals.{add-one}
 use native.Mathlib.Decide.{ℕ-discrete, decLt}
 use native.Mathlib.Omega.{arith}
 use lib.Dec.{eqb}
 use lib.ListN.{length, getD, set, take, drop, length-drop, drop-of-length-le}
 use lib.Seq.{drop-cons, getD-drop, getD-take, length-take-le, getD-set-same, getD-set-other}
 use borrow.Author.Count.{below-more}
-use borrow.Author.Tests.{lt-ltb, le-ltb, le-leb, lt-leb, eq-eqb, ne-eqb}
+use borrow.Author.Tests.{eq-eqb, ne-eqb}
 use Rattle.laws.specs.Pick.{pick, both}
 use Rattle.laws.specs.Lists.{tabulate, firstOf}
+use Rattle.laws.specs.Placing.{patched}
+use Rattle.laws.specs.Sums.{sumAll}
 use Rattle.laws.proofs.Lists.{getD-tabulate, first-none, first-before}
+use Rattle.laws.proofs.Patched.{patched-none, patched-here, patched-other, patched-out}
+use Rattle.laws.proofs.Sums.{sum-tabulate}
 use Rattle.hex.specs.Digits.{digit}
-use Rattle.hex.specs.Lines.{atEnd, total}
+use Rattle.hex.specs.Lines.{atEnd}
 use Rattle.hex.specs.Records.{allDigits}
 use Rattle.hex.specs.Steps.{digitTable, bytesFrom, sumFrom, pastEnd, endLength, storedAt}
 use Rattle.hex.proofs.Shape.{digits-at, digits-all}
@@ -52,21 +55,12 @@ module _ (text : List ℕ) (place : ℕ) where
       go true h = refl
       go false h = absurd (h refl)
 
--- one byte more
-pub total-more : (i : ℕ) (f : ℕ → ℕ) → total (tabulate (i + 1) f) ≡ total (tabulate i f) + f i
-unfolding total tabulate
-total-more i f = rw (add-one i) (go i f)
-  where
-    go : (i : ℕ) (f : ℕ → ℕ) → total (tabulate (suc i) f) ≡ total (tabulate i f) + f i
-    go zero f = omega arith
-    go (suc i) f = omega (arith, go i (λ k. f (suc k)))
-
 -- one turn of the running checksum
-pub sum-more : (i : ℕ) (f : ℕ → ℕ) (sum byte r : ℕ) → sum ≡ total (tabulate i f) % 256 → byte ≡ f i → r ≡ (sum + byte) % 256
-    → r ≡ total (tabulate (i + 1) f) % 256
+pub sum-more : (i : ℕ) (f : ℕ → ℕ) (sum byte r : ℕ) → sum ≡ sumAll (tabulate i f) % 256 → byte ≡ f i → r ≡ (sum + byte) % 256
+    → r ≡ sumAll (tabulate (i + 1) f) % 256
 sum-more i f sum byte r e g h =
-    h ∙ ap (λ n. (n + byte) % 256) e ∙ ap (λ n. (total (tabulate i f) % 256 + n) % 256) g ∙ mod-add-mod (total (tabulate i f)) 256 (f i)
-    ∙ ap (λ n. n % 256) (sym (total-more i f))
+    h ∙ ap (λ n. (n + byte) % 256) e ∙ ap (λ n. (sumAll (tabulate i f) % 256 + n) % 256) g ∙ mod-add-mod (sumAll (tabulate i f)) 256 (f i)
+    ∙ ap (λ n. n % 256) (sym (sum-tabulate i f))
 
 -- n bytes from a place on
 module _ (text : List ℕ) (place n : ℕ) (fits : place + 2 * n ≤ length text) where
@@ -79,7 +73,7 @@ module _ (text : List ℕ) (place n : ℕ) (fits : place + 2 * n ≤ length text
   front-digits : ((k : ℕ) → k < 2 * n → digit (getD text (place + k) 0) < 16) → allDigits (take (2 * n) (drop place text)) ≡ true
   front-digits h = digits-all _ (λ k g. let l : k < 2 * n = omega (arith, front-length) in rw (front-at k l) (h k l))
 
-  pub sum-good : ((k : ℕ) → k < 2 * n → digit (getD text (place + k) 0) < 16) → sumFrom text place n ≡ total (bytesFrom text place n) % 256
+  pub sum-good : ((k : ℕ) → k < 2 * n → digit (getD text (place + k) 0) < 16) → sumFrom text place n ≡ sumAll (bytesFrom text place n) % 256
   unfolding sumFrom
   sum-good h = rw (front-digits h)
 
@@ -87,7 +81,7 @@ module _ (text : List ℕ) (place n : ℕ) (fits : place + 2 * n ≤ length text
   unfolding sumFrom
   sum-bad k h g = go (allDigits (take (2 * n) (drop place text))) refl
     where
-      go : (b : Bool) → allDigits (take (2 * n) (drop place text)) ≡ b → pick b (total (bytesFrom text place n) % 256) 256 ≡ 256
+      go : (b : Bool) → allDigits (take (2 * n) (drop place text)) ≡ b → pick b (sumAll (bytesFrom text place n) % 256) 256 ≡ 256
       go true e = absurd (omega (arith, digits-at _ e k (omega (arith, front-length)), ap digit (front-at k h)))
       go false e = refl
 
@@ -95,7 +89,7 @@ module _ (text : List ℕ) (place n : ℕ) (fits : place + 2 * n ≤ length text
   unfolding sumFrom
   sum-digits s k h = go (allDigits (take (2 * n) (drop place text))) refl s
     where
-      go : (b : Bool) → allDigits (take (2 * n) (drop place text)) ≡ b → pick b (total (bytesFrom text place n) % 256) 256 < 256
+      go : (b : Bool) → allDigits (take (2 * n) (drop place text)) ≡ b → pick b (sumAll (bytesFrom text place n) % 256) 256 < 256
           → digit (getD text (place + k) 0) < 16
       go true e s = omega (arith, digits-at _ e k (omega (arith, front-length)), ap digit (front-at k h))
       go false e s = absurd (omega arith)
@@ -125,45 +119,28 @@ module _ (i : ℕ) (test : ℕ → Bool) where
           ∙ sym (eq-eqb _ _ (first-none (i + 1) test (below-more (λ k. test k ≡ false) i (λ k h. first-before i test k (omega arith)) e)))
       go (no d) = ne-eqb _ _ d ∙ sym (ne-eqb _ _ (λ (f : firstOf (i + 1) test ≡ i + 1). d (first-none i test (λ k h. first-before (i + 1) test k (omega arith)))))
 
--- the scratch with n bytes stored: they lie from the address on, and the other cells are as they were
-module _ (bytes : List ℕ) (address n : ℕ) (cells : List ℕ) (a : ℕ) where
-  pub stored-in : address ≤ a → a < address + n → storedAt bytes address n cells a ≡ getD bytes (4 + (a - address)) 0
+-- the scratch with one byte more stored
+module _ (bytes : List ℕ) (address i : ℕ) (scratch : List ℕ) where
+  pub stored-none : (a : ℕ) → getD scratch a 0 ≡ storedAt bytes address 0 scratch a
   unfolding storedAt
-  stored-in h g = simp (le-leb _ _ h, lt-ltb _ _ g)
-
-  pub stored-below : a < address → storedAt bytes address n cells a ≡ getD cells a 0
-  unfolding storedAt
-  stored-below h = simp (lt-leb _ _ h)
-
-  pub stored-past : address + n ≤ a → storedAt bytes address n cells a ≡ getD cells a 0
-  unfolding storedAt
-  stored-past h = let g : address ≤ a = omega arith in simp (le-leb _ _ g, le-ltb _ _ h)
-
--- one byte more
-module _ (bytes : List ℕ) (address i : ℕ) (cells : List ℕ) where
-  pub stored-none : (a : ℕ) → getD cells a 0 ≡ storedAt bytes address 0 cells a
-  stored-none a = go (decLt a address)
-    where
-      go : Dec (a < address) → getD cells a 0 ≡ storedAt bytes address 0 cells a
-      go (yes h) = sym (stored-below bytes address 0 cells a h)
-      go (no h) = sym (stored-past bytes address 0 cells a (omega arith))
-
-  stored-other : (a : ℕ) → (a ≡ address + i → ⊥) → storedAt bytes address i cells a ≡ storedAt bytes address (i + 1) cells a
-  stored-other a other = go (decLt a address) (decLt a (address + i))
-    where
-      go : Dec (a < address) → Dec (a < address + i) → storedAt bytes address i cells a ≡ storedAt bytes address (i + 1) cells a
-      go (yes h) d = stored-below bytes address i cells a h ∙ sym (stored-below bytes address (i + 1) cells a h)
-      go (no h) (yes g) = stored-in bytes address i cells a (omega arith) g ∙ sym (stored-in bytes address (i + 1) cells a (omega arith) (omega arith))
-      go (no h) (no g) = stored-past bytes address i cells a (omega arith) ∙ sym (stored-past bytes address (i + 1) cells a (omega arith))
+  stored-none a = sym (patched-none address (λ k. getD bytes (4 + k) 0) a (getD scratch a 0))
 
   pub stored-more : (now : List ℕ) (v : ℕ) → address + i < length now → v ≡ getD bytes (4 + i) 0
-      → ((a : ℕ) → getD now a 0 ≡ storedAt bytes address i cells a)
-      → (a : ℕ) → getD (set now (address + i) v) a 0 ≡ storedAt bytes address (i + 1) cells a
+      → ((a : ℕ) → getD now a 0 ≡ storedAt bytes address i scratch a)
+      → (a : ℕ) → getD (set now (address + i) v) a 0 ≡ storedAt bytes address (i + 1) scratch a
+  unfolding storedAt
   stored-more now v h e g a = go (ℕ-discrete a (address + i))
     where
-      go : Dec (a ≡ address + i) → getD (set now (address + i) v) a 0 ≡ storedAt bytes address (i + 1) cells a
+      shows : ℕ → ℕ
+      shows k = getD bytes (4 + k) 0
+
+      go : Dec (a ≡ address + i) → getD (set now (address + i) v) a 0 ≡ patched address (i + 1) shows a (getD scratch a 0)
       go (yes d) =
-          let f : i ≡ a - address = omega arith in
-          ap (λ n. getD (set now (address + i) v) n 0) d ∙ getD-set-same now (address + i) v 0 h ∙ e ∙ ap (λ n. getD bytes (4 + n) 0) f
-          ∙ sym (stored-in bytes address (i + 1) cells a (omega arith) (omega arith))
-      go (no d) = getD-set-other now (address + i) a v 0 d ∙ g a ∙ stored-other a d
+          ap (λ n. getD (set now (address + i) v) n 0) d ∙ getD-set-same now (address + i) v 0 h ∙ e ∙ patched-here address shows i (getD scratch a 0)
+          ∙ ap (λ n. patched address (i + 1) shows n (getD scratch a 0)) (sym d)
+      go (no d) = getD-set-other now (address + i) a v 0 d ∙ g a ∙ patched-other address shows i a (getD scratch a 0) d
+
+  -- the others are as they were
+  pub stored-past : (a : ℕ) → address + i ≤ a → storedAt bytes address i scratch a ≡ getD scratch a 0
+  unfolding storedAt
+  stored-past a h = patched-out address (λ k. getD bytes (4 + k) 0) i a (getD scratch a 0) h

@@ -5,13 +5,15 @@
 use Prim.Native.Nat.{ℕ, _+_, _-_, _*_, _%_}
 use mathlib.Core.Bool.{Bool, true, false, not}
 use mathlib.Core.List.{List, [], _∷_, map}
-use lib.Dec.{eqb, leb, ltb}
+use lib.Dec.{eqb, ltb}
 use lib.ListN.{length, getD, drop}
 use Rattle.laws.specs.Pick.{pick, both}
 use Rattle.laws.specs.Lists.{tabulate, firstOf}
+use Rattle.laws.specs.Placing.{spanHas}
+use Rattle.laws.specs.Sums.{sumAll}
 use Rattle.image.specs.Image.{imageBytes}
 use Rattle.hex.specs.Digits.{digit, byteAt}
-use Rattle.hex.specs.Lines.{lines, bodyOf, total}
+use Rattle.hex.specs.Lines.{lines, bodyOf}
 
 abbrev pub colon : ℕ
 colon = 58
@@ -19,6 +21,13 @@ colon = 58
 -- the bytes of a record beside its data: length, address, type, checksum
 abbrev pub frame : ℕ
 frame = 5
+
+-- the types of a data record and of the end record
+abbrev pub dataType : ℕ
+dataType = 0
+
+abbrev pub endType : ℕ
+endType = 1
 
 unfoldable pub allDigits : List ℕ → Bool
 allDigits [] = true
@@ -51,15 +60,15 @@ typeOf r = getD r 3 0
 
 -- the eight-bit sum of all its bytes, carries dropped
 abbrev pub sumOf : List ℕ → ℕ
-sumOf r = total r % 256
+sumOf r = sumAll r % 256
 
 -- the end record: type 01, no data, address 0
 unfoldable pub isEnd : List ℕ → Bool
-isEnd r = both (eqb (typeOf r) 1) (both (eqb (lengthOf r) 0) (eqb (addressOf r) 0))
+isEnd r = both (eqb (typeOf r) endType) (both (eqb (lengthOf r) 0) (eqb (addressOf r) 0))
 
 -- whether a record gives the byte at an address, and that byte
 unfoldable pub gives : List ℕ → ℕ → Bool
-gives r address = both (leb (addressOf r) address) (ltb address (addressOf r + lengthOf r))
+gives r address = spanHas (addressOf r) (lengthOf r) address
 
 abbrev pub dataAt : List ℕ → ℕ → ℕ
 dataAt r address = getD r (4 + (address - addressOf r)) 0
@@ -80,13 +89,13 @@ freshIn earlier r = firstOf (lengthOf r) (λ i. isGiven earlier (addressOf r + i
 
 -- how many bytes records give
 abbrev pub countOf : List (List ℕ) → ℕ
-countOf rs = total (map lengthOf rs)
+countOf rs = sumAll (map lengthOf rs)
 
 -- the number of a record's fault after earlier records, by the order of the table, and 0 where it has none
 unfoldable pub faultOf : List (List ℕ) → List ℕ → ℕ
 faultOf earlier r =
     pick (eqb (length r) 0) 7
     (pick (not (eqb (sumOf r) 0)) 8
-    (pick (not (pick (isEnd r) true (eqb (typeOf r) 0))) 9
+    (pick (not (pick (isEnd r) true (eqb (typeOf r) dataType))) 9
     (pick (ltb imageBytes (addressOf r + lengthOf r)) 10
     (pick (ltb (freshIn earlier r) (lengthOf r)) 11 0))))

@@ -1,17 +1,24 @@
 -- What the reader's own steps give, in the words of the account: the line that starts at a place of a text, and the scratch in which the
--- records are collected, 256 standing for a byte that no record gave. Only contracts of private functions cite these.
+-- records are collected. Only contracts of private functions cite these.
 -- Assumes nothing.
-use Prim.Native.Nat.{ℕ, _+_, _-_, _*_, _%_}
+use Prim.Native.Nat.{ℕ, _+_, _*_, _%_}
 use mathlib.Core.List.{List, [], _∷_}
-use lib.Dec.{eqb, leb, ltb}
+use lib.Dec.{eqb, ltb}
 use lib.ListN.{length, getD, take, drop, replicate}
-use Rattle.laws.specs.Pick.{pick, both}
+use Rattle.laws.specs.Pick.{pick}
 use Rattle.laws.specs.Lists.{tabulate}
+use Rattle.laws.specs.Placing.{patched}
+use Rattle.laws.specs.Sums.{sumAll}
+use Rattle.image.specs.Image.{imageBytes}
 use Rattle.hex.specs.Digits.{digit, byteAt}
-use Rattle.hex.specs.Lines.{lines, bodyOf, atEnd, LF, total}
-use Rattle.hex.specs.Records.{isShaped, spelledBy, allDigits, sumOf}
+use Rattle.hex.specs.Lines.{lines, bodyOf, atEnd, LF}
+use Rattle.hex.specs.Records.{frame, isShaped, spelledBy, allDigits, sumOf}
 use Rattle.hex.specs.declared.Line.{Line}
 use Rattle.hex.specs.declared.Line.the-variants.{Shaped, Unshaped}
+
+-- the bytes of the longest record
+abbrev pub recordMost : ℕ
+recordMost = frame + 255
 
 -- the value of each byte as a digit
 abbrev pub digitTable : List ℕ
@@ -23,7 +30,7 @@ bytesFrom text place n = tabulate n (λ i. byteAt text (place + 2 * i))
 
 -- their eight-bit sum, or 256 where they are not all digits
 unfoldable pub sumFrom : List ℕ → ℕ → ℕ → ℕ
-sumFrom text place n = pick (allDigits (take (2 * n) (drop place text))) (total (bytesFrom text place n) % 256) 256
+sumFrom text place n = pick (allDigits (take (2 * n) (drop place text))) (sumAll (bytesFrom text place n) % 256) 256
 
 -- how long the line's end at the front is
 abbrev pub endLength : List ℕ → ℕ
@@ -45,14 +52,18 @@ nextAt text place = place + length (getD (lines (drop place text)) 0 [])
 unfoldable pub lineAt : List ℕ → ℕ → Line
 lineAt text place = pick (isShaped (bodyOf (drop place text))) (Shaped (sumOf (recordAt text place)) (nextAt text place)) Unshaped
 
+-- what stands in the scratch for a byte that no record gave: no byte
+abbrev pub notGiven : ℕ
+notGiven = 256
+
 -- the scratch before any record
-unfoldable pub blank : List ℕ
-blank = replicate 8192 256
+unfoldable pub unfilled : List ℕ
+unfilled = replicate imageBytes notGiven
 
 -- the scratch with n bytes, data after a record's first four, stored at an address
 unfoldable pub storedAt : List ℕ → ℕ → ℕ → List ℕ → ℕ → ℕ
-storedAt bytes address n cells a = pick (both (leb address a) (ltb a (address + n))) (getD bytes (4 + (a - address)) 0) (getD cells a 0)
+storedAt bytes address n scratch a = patched address n (λ i. getD bytes (4 + i) 0) a (getD scratch a 0)
 
--- the byte of a scratch cell
+-- the byte of the image for what the scratch holds
 abbrev pub byteOf : ℕ → ℕ
-byteOf x = pick (ltb x 256) x 255
+byteOf x = pick (ltb x notGiven) x 255

@@ -6,27 +6,36 @@ ghost use mathlib.Core.List.{_++_};
 ghost use lib.Dec.{eqb, ltb};
 ghost use lib.ListN.{length, getD, take, drop};
 ghost use Rattle.laws.specs.Lists.{tabulate, firstOf};
+ghost use Rattle.image.specs.Image.{imageBytes};
 ghost use Rattle.hex.specs.Records.{records, byteIn};
-ghost use Rattle.hex.specs.Steps.{blank, digitTable, bytesFrom, sumFrom, pastEnd, recordAt, lineAt, storedAt, byteOf};
-ghost use Rattle.hex.specs.Reading.{answerOf, leftOf, said, verdict};
+ghost use Rattle.hex.specs.Steps.{recordMost, digitTable, bytesFrom, sumFrom, pastEnd, recordAt, lineAt, notGiven, unfilled, storedAt, byteOf};
+ghost use Rattle.hex.specs.Reading.{mostText, answerOf, leftOf, said, verdict};
 
-const IMAGE_BYTES: usize = 8192;
+mod digits;
 
 const MOST_TEXT: usize = 65535;
 
-const LF: u8 = 10;
+pub const LF: u8 = 10;
 
 const CR: u8 = 13;
 
-const COLON: u8 = 58;
+pub const COLON: u8 = 58;
 
 // The bytes of a record beside its data: length, address (two), type, checksum.
 const FRAME: usize = 5;
 
-// The types of a data record and of the end record.
-const DATA: u8 = 0;
+// The bytes of the longest record, and of the shortest line: a colon and two digits for each byte of a record without data.
+const RECORD_MOST: usize = FRAME + 255;
 
-const END: u8 = 1;
+const LINE_LEAST: usize = 1 + 2 * FRAME;
+
+// The types of a data record and of the end record.
+pub const DATA: u8 = 0;
+
+pub const END: u8 = 1;
+
+// What stands in the scratch for a byte that no record gave.
+const NOT_GIVEN: u16 = 256;
 
 pub enum Outcome {
     // The bytes that the records give.
@@ -46,25 +55,24 @@ pub enum Outcome {
     BadEnd(u32),
 }
 
-// The image that a text spells, into the first 8,192 bytes lent. A refusal leaves them as they were: the records are collected in a scratch,
-// where 256 stands for a byte that none of them gave.
+// The image that a text spells, into the first 8,192 bytes lent. A refusal leaves them as they were: the records are collected in a scratch.
 pub fn read(text: &[u8], image: &mut [u8]) -> Outcome
     ensures { λ r. ⌜ (said r ≡ answerOf (now (text .entry)) (length (now (image .entry))))
         × (now (image .exit) ≡ leftOf (now (text .entry)) (now (image .entry))) ⌝ }
 {
-    if image.len() < IMAGE_BYTES {
+    if image.len() < image::IMAGE_BYTES {
         return Outcome::NoRoom;
     }
     if MOST_TEXT < text.len() {
         return Outcome::BadShape(0);
     }
-    let digits = DIGITS;
-    let mut bytes = [0u8; 260];
-    let mut cells = [256u16; 8192];
-    let outcome = collect(&digits, text, &mut bytes, &mut cells);
+    let digits = digits::DIGITS;
+    let mut bytes = [0u8; RECORD_MOST];
+    let mut scratch = [NOT_GIVEN; image::IMAGE_BYTES];
+    let outcome = collect(&digits, text, &mut bytes, &mut scratch);
     match outcome {
         Outcome::Done(_) => {
-            copy_out(&cells, image);
+            copy_out(&scratch, image);
             outcome
         }
         _ => outcome,
@@ -72,10 +80,10 @@ pub fn read(text: &[u8], image: &mut [u8]) -> Outcome
 }
 
 // The text's records into the scratch, with the answer. bytes is room for one record.
-fn collect(digits: &[u8], text: &[u8], bytes: &mut [u8], cells: &mut [u16]) -> Outcome
-    requires { ⌜ (now digits ≡ digitTable) × (length (now text) ≤ 65535) × (length (now bytes) ≡ 260) × (now cells ≡ blank) ⌝ }
+fn collect(digits: &[u8], text: &[u8], bytes: &mut [u8], scratch: &mut [u16]) -> Outcome
+    requires { ⌜ (now digits ≡ digitTable) × (length (now text) ≤ mostText) × (length (now bytes) ≡ recordMost) × (now scratch ≡ unfilled) ⌝ }
     ensures { λ r. ⌜ (said r ≡ verdict (now (text .entry)))
-        × (said r .number ≡ 0 → now (cells .exit) ≡ tabulate 8192 (byteIn 256 (records (now (text .entry))))) ⌝ }
+        × (said r .number ≡ 0 → now (scratch .exit) ≡ tabulate imageBytes (byteIn notGiven (records (now (text .entry))))) ⌝ }
 {
     let mut at = 0usize;
     let mut count = 0u32;
@@ -104,10 +112,10 @@ fn collect(digits: &[u8], text: &[u8], bytes: &mut [u8], cells: &mut [u16]) -> O
         if kind != DATA {
             return Outcome::BadType(at as u32);
         }
-        if IMAGE_BYTES < address + n {
+        if image::IMAGE_BYTES < address + n {
             return Outcome::PastEnd(at as u32);
         }
-        if store(bytes, n, address, cells) {
+        if store(bytes, n, address, scratch) {
             count += n as u32;
             at = next;
         } else {
@@ -125,11 +133,11 @@ enum Line {
 
 // The record of the line that starts at a place, into bytes.
 fn parse(digits: &[u8], text: &[u8], at: usize, bytes: &mut [u8]) -> Line
-    requires { ⌜ (now digits ≡ digitTable) × (at < length (now text)) × (length (now text) ≤ 65535) × (length (now bytes) ≡ 260) ⌝ }
+    requires { ⌜ (now digits ≡ digitTable) × (at < length (now text)) × (length (now text) ≤ mostText) × (length (now bytes) ≡ recordMost) ⌝ }
     ensures { λ r. ⌜ (r ≡ lineAt (now (text .entry)) at)
         × (take (length (recordAt (now (text .entry)) at)) (now (bytes .exit)) ≡ recordAt (now (text .entry)) at) ⌝ }
 {
-    if text.len() - at < 11 {
+    if text.len() - at < LINE_LEAST {
         return Line::Unshaped;
     }
     if text[at] != COLON {
@@ -188,7 +196,7 @@ fn decode(digits: &[u8], text: &[u8], from: usize, n: usize, bytes: &mut [u8]) -
 
 // Where the line after a line's end starts, or 0 where no end stands there.
 fn past_end(text: &[u8], place: usize) -> usize
-    requires { ⌜ (place ≤ length (now text)) × (length (now text) ≤ 65535) ⌝ }
+    requires { ⌜ (place ≤ length (now text)) × (length (now text) ≤ mostText) ⌝ }
     ensures { λ r. ⌜ r ≡ pastEnd (now (text .entry)) place ⌝ }
 {
     if place == text.len() {
@@ -209,33 +217,33 @@ fn past_end(text: &[u8], place: usize) -> usize
     0
 }
 
-// The data of a record into the scratch, and whether none of its bytes was there already: each cell is written all the same, so that
+// The data of a record into the scratch, and whether none of its bytes was there already: each is written all the same, so that
 // nothing but the length ends the loop.
-fn store(bytes: &[u8], n: usize, address: usize, cells: &mut [u16]) -> bool
-    requires { ⌜ (4 + n ≤ length (now bytes)) × (address + n ≤ 8192) × (length (now cells) ≡ 8192) ⌝ }
-    ensures { λ r. ⌜ (r ≡ eqb (firstOf n (λ i. ltb (getD (now (cells .entry)) (address + i) 0) 256)) n)
-        × (r ≡ true → now (cells .exit) ≡ tabulate 8192 (storedAt (now (bytes .entry)) address n (now (cells .entry)))) ⌝ }
+fn store(bytes: &[u8], n: usize, address: usize, scratch: &mut [u16]) -> bool
+    requires { ⌜ (4 + n ≤ length (now bytes)) × (address + n ≤ imageBytes) × (length (now scratch) ≡ imageBytes) ⌝ }
+    ensures { λ r. ⌜ (r ≡ eqb (firstOf n (λ i. ltb (getD (now (scratch .entry)) (address + i) 0) notGiven)) n)
+        × (r ≡ true → now (scratch .exit) ≡ tabulate imageBytes (storedAt (now (bytes .entry)) address n (now (scratch .entry)))) ⌝ }
 {
     let mut fresh = true;
     let mut i = 0usize;
     while i < n {
-        if cells[address + i] < 256 {
+        if scratch[address + i] < NOT_GIVEN {
             fresh = false;
         }
-        cells[address + i] = bytes[4 + i] as u16;
+        scratch[address + i] = bytes[4 + i] as u16;
         i += 1;
     }
     fresh
 }
 
 // The scratch as bytes, into the first 8,192 bytes lent.
-fn copy_out(cells: &[u16], image: &mut [u8])
-    requires { ⌜ (length (now cells) ≡ 8192) × (8192 ≤ length (now image)) ⌝ }
-    ensures { λ _. ⌜ now (image .exit) ≡ tabulate 8192 (λ i. byteOf (getD (now (cells .entry)) i 0)) ++ drop 8192 (now (image .entry)) ⌝ }
+fn copy_out(scratch: &[u16], image: &mut [u8])
+    requires { ⌜ (length (now scratch) ≡ imageBytes) × (imageBytes ≤ length (now image)) ⌝ }
+    ensures { λ _. ⌜ now (image .exit) ≡ tabulate imageBytes (λ i. byteOf (getD (now (scratch .entry)) i 0)) ++ drop imageBytes (now (image .entry)) ⌝ }
 {
     let mut i = 0usize;
-    while i < IMAGE_BYTES {
-        image[i] = byte_of(cells[i]);
+    while i < image::IMAGE_BYTES {
+        image[i] = byte_of(scratch[i]);
         i += 1;
     }
 }
@@ -243,265 +251,5 @@ fn copy_out(cells: &[u16], image: &mut [u8])
 fn byte_of(x: u16) -> u8
     ensures { λ r. ⌜ r ≡ byteOf x ⌝ }
 {
-    if x < 256 { x as u8 } else { 255 }
+    if x < NOT_GIVEN { x as u8 } else { 255 }
 }
-
-// The value of each byte as a hexadecimal digit of either case, or 16.
-const DIGITS: [u8; 256] = [
-    16,
-    16,
-    16,
-    16,
-    16,
-    16,
-    16,
-    16,
-    16,
-    16,
-    16,
-    16,
-    16,
-    16,
-    16,
-    16,
-    16,
-    16,
-    16,
-    16,
-    16,
-    16,
-    16,
-    16,
-    16,
-    16,
-    16,
-    16,
-    16,
-    16,
-    16,
-    16,
-    16,
-    16,
-    16,
-    16,
-    16,
-    16,
-    16,
-    16,
-    16,
-    16,
-    16,
-    16,
-    16,
-    16,
-    16,
-    16,
-    0, // 0
-    1,
-    2,
-    3,
-    4,
-    5,
-    6,
-    7,
-    8,
-    9,
-    16,
-    16,
-    16,
-    16,
-    16,
-    16,
-    16,
-    10, // A
-    11,
-    12,
-    13,
-    14,
-    15,
-    16,
-    16,
-    16,
-    16,
-    16,
-    16,
-    16,
-    16,
-    16,
-    16,
-    16,
-    16,
-    16,
-    16,
-    16,
-    16,
-    16,
-    16,
-    16,
-    16,
-    16,
-    16,
-    16,
-    16,
-    16,
-    16,
-    10, // a
-    11,
-    12,
-    13,
-    14,
-    15,
-    16,
-    16,
-    16,
-    16,
-    16,
-    16,
-    16,
-    16,
-    16,
-    16,
-    16,
-    16,
-    16,
-    16,
-    16,
-    16,
-    16,
-    16,
-    16,
-    16,
-    16,
-    16,
-    16,
-    16,
-    16,
-    16,
-    16,
-    16,
-    16,
-    16,
-    16,
-    16,
-    16,
-    16,
-    16,
-    16,
-    16,
-    16,
-    16,
-    16,
-    16,
-    16,
-    16,
-    16,
-    16,
-    16,
-    16,
-    16,
-    16,
-    16,
-    16,
-    16,
-    16,
-    16,
-    16,
-    16,
-    16,
-    16,
-    16,
-    16,
-    16,
-    16,
-    16,
-    16,
-    16,
-    16,
-    16,
-    16,
-    16,
-    16,
-    16,
-    16,
-    16,
-    16,
-    16,
-    16,
-    16,
-    16,
-    16,
-    16,
-    16,
-    16,
-    16,
-    16,
-    16,
-    16,
-    16,
-    16,
-    16,
-    16,
-    16,
-    16,
-    16,
-    16,
-    16,
-    16,
-    16,
-    16,
-    16,
-    16,
-    16,
-    16,
-    16,
-    16,
-    16,
-    16,
-    16,
-    16,
-    16,
-    16,
-    16,
-    16,
-    16,
-    16,
-    16,
-    16,
-    16,
-    16,
-    16,
-    16,
-    16,
-    16,
-    16,
-    16,
-    16,
-    16,
-    16,
-    16,
-    16,
-    16,
-    16,
-    16,
-    16,
-    16,
-    16,
-    16,
-    16,
-    16,
-    16,
-    16,
-    16,
-    16,
-    16,
-    16,
-    16,
-    16,
-    16,
-    16,
-    16,
-    16,
-    16,
-    16,
-    16,
-];

@@ -27,8 +27,8 @@ module _ (at : ℕ) (whole : at % 32 ≡ 0) where
   unfolding leastAt
   least-same k h =
       let cell : (at + k) % 4096 / 32 ≡ at % 4096 / 32 = omega arith in
-      let line : (at + k) % 32 ≡ k = omega arith in
-      rw (cell, line, whole, lt-ltb k 18 h, half (decLt at 4096))
+      let row : (at + k) % 32 ≡ k = omega arith in
+      rw (cell, row, whole, lt-ltb k 18 h, half (decLt at 4096))
     where
       half : Dec (at < 4096) → ltb (at + k) 4096 ≡ ltb at 4096
       half (yes l) = lt-ltb (at + k) 4096 (omega arith) ∙ sym (lt-ltb at 4096 l)

@@ -15,7 +15,7 @@ use Rattle.laws.specs.Pick.{both, pick}
 use Rattle.laws.specs.Said.{Said, accepted, refused}
 use Rattle.laws.specs.Within.{within}
 use Rattle.font.specs.Font.{isFont, rowOf}
-use Rattle.image.specs.Image.{imageOf, fontOf, dueAt, rowIn, lowAt, cellAt, lineAt, hasRow, leastAt, lacksAt, firstLack, answerOf}
+use Rattle.image.specs.Image.{imageOf, fontOf, halfAt, dueAt, rowIn, lowAt, cellAt, rowAt, hasRow, leastAt, lacksAt, firstLack, answerOf}
 use Rattle.laws.proofs.Lists.{length-tabulate, getD-tabulate, is-tabulate, first-none, first-before, both-parts}
 
 within-at : (most : ℕ) (l : List ℕ) → within most l ≡ true → (k : ℕ) → getD l k 0 ≤ most
@@ -24,10 +24,10 @@ within-at most [] e k = omega arith
 within-at most (a ∷ l) e zero = leb-true a most (both-parts (leb a most) (within most l) e .0)
 within-at most (a ∷ l) e (suc k) = within-at most l (both-parts (leb a most) (within most l) e .1) k
 
-within-all : (most : ℕ) (l : List ℕ) → ((k : ℕ) → k < length l → getD l k 0 ≤ most) → within most l ≡ true
+within-each : (most : ℕ) (l : List ℕ) → ((k : ℕ) → k < length l → getD l k 0 ≤ most) → within most l ≡ true
 unfolding within
-within-all most [] h = refl
-within-all most (a ∷ l) h = rw (le-leb a most (h 0 (omega arith))) (within-all most l (λ k g. h (suc k) (omega arith)))
+within-each most [] h = refl
+within-each most (a ∷ l) h = rw (le-leb a most (h 0 (omega arith))) (within-each most l (λ k g. h (suc k) (omega arith)))
 
 -- a font's rows
 pub font-length : (font : List ℕ) → isFont font ≡ true → length font ≡ 1116
@@ -38,19 +38,19 @@ pub font-row : (font : List ℕ) → isFont font ≡ true → (k : ℕ) → getD
 unfolding isFont
 font-row font e = within-at 4095 font (both-parts (eqb (length font) 1116) _ e .1)
 
--- an address from its cell and line, in the first half and in the second, and back
+-- an address from its cell and row, in the first half and in the second, and back
 module _ (c l : ℕ) (hc : c < 62) (hl : l < 18) where
   low-cell : (32 * c + l) % 4096 / 32 ≡ c
   low-cell = omega arith
 
-  low-line : (32 * c + l) % 32 ≡ l
-  low-line = omega arith
+  low-row : (32 * c + l) % 32 ≡ l
+  low-row = omega arith
 
   high-cell : (4096 + (32 * c + l)) % 4096 / 32 ≡ c
   high-cell = omega arith
 
-  high-line : (4096 + (32 * c + l)) % 32 ≡ l
-  high-line = omega arith
+  high-row : (4096 + (32 * c + l)) % 32 ≡ l
+  high-row = omega arith
 
 low-whole : (a : ℕ) → a < 4096 → 32 * (a % 4096 / 32) + a % 32 ≡ a
 low-whole a h = let e : a % 4096 ≡ a = omega arith in rw e (omega arith)
@@ -67,21 +67,21 @@ row-low c l h = omega arith
 -- the two addresses of row k
 module _ (font : List ℕ) (k : ℕ) (h : k < 1116) where
   low-due : dueAt font (lowAt k) ≡ getD font k 0 % 256
-  unfolding dueAt
+  unfolding dueAt halfAt
   low-due =
       let hc : k / 18 < 62 = omega arith in
       let hl : k % 18 < 18 = omega arith in
       let e : 18 * (k / 18) + k % 18 ≡ k = omega arith in
-      simp (low-cell (k / 18) (k % 18) hc hl, low-line (k / 18) (k % 18) hc hl, lt-ltb (k / 18) 62 hc, lt-ltb (k % 18) 18 hl, lt-ltb (lowAt k) 4096 (omega arith), e)
+      simp (low-cell (k / 18) (k % 18) hc hl, low-row (k / 18) (k % 18) hc hl, lt-ltb (k / 18) 62 hc, lt-ltb (k % 18) 18 hl, lt-ltb (lowAt k) 4096 (omega arith), e)
 
   high-due : dueAt font (4096 + lowAt k) ≡ 240 + getD font k 0 / 256
-  unfolding dueAt
+  unfolding dueAt halfAt
   high-due =
       let hc : k / 18 < 62 = omega arith in
       let hl : k % 18 < 18 = omega arith in
       let e : 18 * (k / 18) + k % 18 ≡ k = omega arith in
       simp
-      (high-cell (k / 18) (k % 18) hc hl, high-line (k / 18) (k % 18) hc hl, lt-ltb (k / 18) 62 hc, lt-ltb (k % 18) 18 hl, le-ltb (4096 + lowAt k) 4096 (omega arith), e)
+      (high-cell (k / 18) (k % 18) hc hl, high-row (k / 18) (k % 18) hc hl, lt-ltb (k / 18) 62 hc, lt-ltb (k % 18) 18 hl, le-ltb (4096 + lowAt k) 4096 (omega arith), e)
 
 -- the image of a font gives the font again
 pub font-again : (font : List ℕ) → isFont font ≡ true → fontOf (imageOf font) ≡ font
@@ -95,11 +95,11 @@ font-again font e =
 -- it lacks no bit, so it is accepted
 module _ (font : List ℕ) where
   due-least : (address : ℕ) → leastAt address ≤ dueAt font address
-  unfolding leastAt dueAt
+  unfolding leastAt dueAt halfAt
   due-least address = go (hasRow address) (ltb address 4096)
     where
       row : ℕ
-      row = rowOf font (cellAt address) (lineAt address)
+      row = rowOf font (cellAt address) (rowAt address)
 
       go : (b d : Bool) → pick b (pick d 0 240) 255 ≤ pick b (pick d (row % 256) (240 + row / 256)) 255
       go true true = omega arith
@@ -144,7 +144,7 @@ module _ (image : List ℕ) (room : ℕ) (e : answerOf image room ≡ accepted 0
     row-here k h = getD-tabulate 1116 (rowIn image) k 0 h
 
     due-again : (a : ℕ) → a < 8192 → dueAt (fontOf image) a ≡ getD image a 0
-    unfolding dueAt leastAt
+    unfolding dueAt halfAt leastAt
     due-again a h = go (decLt (a % 4096 / 32) 62) (decLt (a % 32) 18) (decLt a 4096) (accepted-none a h)
       where
         go : Dec (a % 4096 / 32 < 62) → Dec (a % 32 < 18) → Dec (a < 4096) → leastAt a ≤ getD image a 0 → dueAt (fontOf image) a ≡ getD image a 0
@@ -172,4 +172,4 @@ module _ (image : List ℕ) (room : ℕ) (e : answerOf image room ≡ accepted 0
     unfolding isFont
     gives-font =
         rw (eq-eqb _ _ (length-tabulate 1116 (rowIn image)))
-        (within-all 4095 (fontOf image) (λ k h. let h′ : k < 1116 = rw length-tabulate at h in rw (row-here k h′) (omega (arith, bytes (lowAt k)))))
+        (within-each 4095 (fontOf image) (λ k h. let h′ : k < 1116 = rw length-tabulate at h in rw (row-here k h′) (omega (arith, bytes (lowAt k)))))

@@ -24,22 +24,24 @@ halfBytes = 4096
 abbrev pub stride : ℕ
 stride = 32
 
--- the cell and the line whose bits an address can hold
+-- the cell, and the row of that cell, whose bits an address can hold
 abbrev pub cellAt : ℕ → ℕ
 cellAt address = address % halfBytes / stride
 
-abbrev pub lineAt : ℕ → ℕ
-lineAt address = address % stride
+abbrev pub rowAt : ℕ → ℕ
+rowAt address = address % stride
 
 -- whether it does: there is such a row
 abbrev pub hasRow : ℕ → Bool
-hasRow address = both (ltb (cellAt address) fontCells) (ltb (lineAt address) cellRows)
+hasRow address = both (ltb (cellAt address) fontCells) (ltb (rowAt address) cellRows)
+
+-- what an address holds of a row: its low 8 bits, or its high 4 under four set bits
+unfoldable pub halfAt : ℕ → ℕ → ℕ
+halfAt address row = pick (ltb address halfBytes) (row % 256) (240 + row / 256)
 
 -- the byte of a font's image at an address
 unfoldable pub dueAt : List ℕ → ℕ → ℕ
-dueAt font address =
-    let row = rowOf font (cellAt address) (lineAt address) in
-    pick (hasRow address) (pick (ltb address halfBytes) (row % 256) (240 + row / 256)) 255
+dueAt font address = pick (hasRow address) (halfAt address (rowOf font (cellAt address) (rowAt address))) 255
 
 -- the image of a font
 abbrev pub imageOf : List ℕ → List ℕ

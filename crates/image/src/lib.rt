@@ -3,9 +3,10 @@ ghost use mathlib.Core.Path.{_≡_};
 ghost use Prim.Native.Nat.{ℕ, _+_, _*_, _<_, _≤_};
 ghost use mathlib.Core.Bool.{false};
 ghost use lib.ListN.{length, getD};
-ghost use Rattle.image.specs.Image.{leastAt, lacksAt, firstLack, fontOf, rowIn, answerOf, leftOf, said};
+ghost use Rattle.font.specs.Font.{fontCells, cellRows, fontRows};
+ghost use Rattle.image.specs.Image.{imageBytes, leastAt, lacksAt, firstLack, fontOf, rowIn, answerOf, leftOf, said};
 
-const IMAGE_BYTES: usize = 8192;
+pub const IMAGE_BYTES: usize = 8192;
 
 const HALF_BYTES: usize = 4096;
 
@@ -13,9 +14,9 @@ const STRIDE: usize = 32;
 
 const FONT_ROWS: usize = 1116;
 
-const FONT_CELLS: usize = 62;
+pub const FONT_CELLS: usize = 62;
 
-const CELL_ROWS: usize = 18;
+pub const CELL_ROWS: usize = 18;
 
 pub enum Turned {
     Done,
@@ -43,7 +44,7 @@ pub fn image_to_font(image: &[u8], font: &mut [u16]) -> Turned
 }
 
 fn first_lack(image: &[u8]) -> usize
-    requires { ⌜ length (now image) ≡ 8192 ⌝ }
+    requires { ⌜ length (now image) ≡ imageBytes ⌝ }
     ensures { λ r. ⌜ r ≡ firstLack (now (image .entry)) ⌝ }
 {
     let mut i = whole_strides(image);
@@ -58,8 +59,8 @@ fn first_lack(image: &[u8]) -> usize
 
 // Where the strides at the image's start that lack nothing end. In a stride the least byte changes once, after a cell's rows.
 fn whole_strides(image: &[u8]) -> usize
-    requires { ⌜ length (now image) ≡ 8192 ⌝ }
-    ensures { λ r. ⌜ (r ≤ 8192) × ((k : ℕ) → k < r → lacksAt (now (image .entry)) k ≡ false) ⌝ }
+    requires { ⌜ length (now image) ≡ imageBytes ⌝ }
+    ensures { λ r. ⌜ (r ≤ imageBytes) × ((k : ℕ) → k < r → lacksAt (now (image .entry)) k ≡ false) ⌝ }
 {
     let mut at = 0usize;
     while at < IMAGE_BYTES {
@@ -107,24 +108,24 @@ fn least(address: usize) -> u8
 }
 
 fn fill(image: &[u8], font: &mut [u16])
-    requires { ⌜ (length (now image) ≡ 8192) × (length (now font) ≡ 1116) ⌝ }
+    requires { ⌜ (length (now image) ≡ imageBytes) × (length (now font) ≡ fontRows) ⌝ }
     ensures { λ _. ⌜ now (font .exit) ≡ fontOf (now (image .entry)) ⌝ }
 {
     let mut cell = 0usize;
     while cell < FONT_CELLS {
-        let mut line = 0usize;
-        while line < CELL_ROWS {
-            font[CELL_ROWS * cell + line] = row(image, cell, line);
-            line += 1;
+        let mut row = 0usize;
+        while row < CELL_ROWS {
+            font[CELL_ROWS * cell + row] = row_at(image, cell, row);
+            row += 1;
         }
         cell += 1;
     }
 }
 
-fn row(image: &[u8], cell: usize, line: usize) -> u16
-    requires { ⌜ (length (now image) ≡ 8192) × (cell < 62) × (line < 18) ⌝ }
-    ensures { λ r. ⌜ r ≡ rowIn (now (image .entry)) (18 * cell + line) ⌝ }
+fn row_at(image: &[u8], cell: usize, row: usize) -> u16
+    requires { ⌜ (length (now image) ≡ imageBytes) × (cell < fontCells) × (row < cellRows) ⌝ }
+    ensures { λ r. ⌜ r ≡ rowIn (now (image .entry)) (cellRows * cell + row) ⌝ }
 {
-    let low = STRIDE * cell + line;
+    let low = STRIDE * cell + row;
     (image[low] as u16) + 256 * ((image[HALF_BYTES + low] % 16) as u16)
 }

@@ -5,5 +5,7 @@ pub mod Mapped
 pub mod Overlay
 pub mod Patched
 pub mod Placing
+pub mod Said
 pub mod Scan
+pub mod Sums
 pub mod Tests

@@ -3,10 +3,11 @@
 -- Assumes nothing.
 use mathlib.Core.Path.{_≡_, refl, sym, _∙_, ap}
 use mathlib.Core.Bool.{Bool, true, false}
-use mathlib.Core.List.{List, _∷_, _++_}
+use mathlib.Core.List.{List, [], _∷_, _++_}
 use Prim.Native.Nat.{ℕ, zero, suc, _+_, _-_, _<_, _≤_}
 use native.Mathlib.Nat.{le-of-suc-le-suc, not-suc-le-zero}
 use native.Mathlib.Decide.{ℕ-discrete, decLt}
+use native.Mathlib.Numerals.{add-one}
 use native.Mathlib.Omega.{arith}
 use lib.ListN.{length, getD, set, take, drop, replicate, length-append, length-drop, length-set, List·getD-append}
 use lib.Seq.{ext-getD, getD-set-same, getD-set-other, getD-append-add, getD-drop}
@@ -131,3 +132,23 @@ module _ (f : ℕ → ℕ) where
           g .left k (omega arith)
           ∙ sym (ap (λ i. getD (tabulate n f ++ drop n l₀) i 0) e ∙ getD-append-add (tabulate n f) (drop n l₀) (k - n) 0
           ∙ getD-drop n l₀ (k - n) 0 ∙ ap (λ i. getD l₀ i 0) e′)
+
+-- one element more
+pub tabulate-more : {A : Type 0} (i : ℕ) (f : ℕ → A) → tabulate (i + 1) f ≡ tabulate i f ++ (f i ∷ [])
+unfolding tabulate
+tabulate-more {A} i f = rw (add-one i) (go i f)
+  where
+    go : (i : ℕ) (f : ℕ → A) → tabulate (suc i) f ≡ tabulate i f ++ (f i ∷ [])
+    go zero f = refl
+    go (suc i) f = ap (λ (l : List A). f 0 ∷ l) (go i (λ k. f (suc k)))
+
+-- the first that passes does pass
+pub first-at : (n : ℕ) (test : ℕ → Bool) → firstOf n test < n → test (firstOf n test) ≡ true
+unfolding firstOf
+first-at zero test h = absurd (not-suc-le-zero h)
+first-at (suc n) test h = go (first-at n (λ k. test (suc k))) (test 0) refl h
+  where
+    go : (firstOf n (λ k. test (suc k)) < n → test (suc (firstOf n (λ k. test (suc k)))) ≡ true) → (b : Bool) → test 0 ≡ b
+        → pick b 0 (suc (firstOf n (λ k. test (suc k)))) < suc n → test (pick b 0 (suc (firstOf n (λ k. test (suc k))))) ≡ true
+    go ih true e h = e
+    go ih false e h = ih (le-of-suc-le-suc h)

@@ -1,24 +1,28 @@
 -- Painting dots from x on: one more, some more of one byte, and cut where the line ends.
 -- Assumes nothing.
 use mathlib.Core.Path.{_≡_, sym, ap, _∙_}
+use mathlib.Core.Bool.{true}
 use mathlib.Core.Logic.{⊎-elim}
 use Prim.Native.Nat.{ℕ, _+_, _-_, _<_, _≤_}
 use native.Mathlib.Nat.{add-sub-cancel-left}
 use native.Mathlib.Omega.{arith}
-use Rattle.laws.specs.Placing.{patched}
+use borrow.Author.Tests.{leb-true, ltb-true}
+use lib.Dec.{leb, ltb}
+use Rattle.laws.specs.Placing.{spanHas, patched}
+use Rattle.laws.proofs.Lists.{both-parts}
 use Rattle.laws.proofs.Scan.{split}
 use Rattle.laws.proofs.Placing.{span-in, span-before, span-after}
 
 module _ (x : ℕ) (shows : ℕ → ℕ) where
-  patched-out : (n k a : ℕ) → x + n ≤ k → patched x n shows k a ≡ a
+  pub patched-out : (n k a : ℕ) → x + n ≤ k → patched x n shows k a ≡ a
   unfolding patched
   patched-out n k a le = simp (span-after x n k le)
 
-  patched-in : (n k a : ℕ) → x ≤ k → k < x + n → patched x n shows k a ≡ shows (k - x)
+  pub patched-in : (n k a : ℕ) → x ≤ k → k < x + n → patched x n shows k a ≡ shows (k - x)
   unfolding patched
   patched-in n k a le lt = simp (span-in x n k le lt)
 
-  patched-before : (n k a : ℕ) → k < x → patched x n shows k a ≡ a
+  pub patched-before : (n k a : ℕ) → k < x → patched x n shows k a ≡ a
   unfolding patched
   patched-before n k a lt = simp (span-before x n k lt)
 
@@ -63,3 +67,7 @@ module _ (x : ℕ) (shows : ℕ → ℕ) where
       (λ (left : k < x). simp (span-before x m k left, span-before x (m + n) k left))
       (split x k)))
       (split (x + m) k)
+
+-- what it is for a span to have a place
+pub span-has : (x n k : ℕ) → spanHas x n k ≡ true → (x ≤ k) × (k < x + n)
+span-has x n k e = let parts = both-parts (leb x k) (ltb k (x + n)) e in (leb-true _ _ (parts .0), ltb-true _ _ (parts .1))

@@ -3,8 +3,8 @@
 -- Assumes nothing.
 use mathlib.Core.Path.{_≡_, refl, sym, _∙_, ap}
 use mathlib.Core.Bool.{Bool, true, false}
-use mathlib.Core.List.{List, [], _∷_, _++_, flatMap, append-assoc, append-nil}
-use Prim.Native.Nat.{ℕ, zero, suc, _+_, _-_, _*_, _/_, _%_, _<_, _≤_}
+use mathlib.Core.List.{List, [], _∷_, _++_, map, flatMap, append-assoc, append-nil}
+use Prim.Native.Nat.{ℕ, zero, suc, _+_, _*_, _/_, _%_, _<_, _≤_}
 use native.Mathlib.Nat.{le-of-suc-le-suc, not-suc-le-zero}
 use native.Mathlib.Omega.{arith}
 use lib.Dec.{eqb, ltb, eqb→eq}
@@ -16,7 +16,7 @@ use Rattle.laws.specs.Lists.{tabulate}
 use Rattle.laws.proofs.Lists.{is-tabulate}
 use Rattle.hex.specs.Digits.{digit, byteAt}
 use Rattle.hex.specs.Lines.{lines, atEnd, bodyOf, LF}
-use Rattle.hex.specs.Records.{colon, allDigits, isShaped, spelledBy, recordOf, records, lengthOf}
+use Rattle.hex.specs.Records.{colon, allDigits, isShaped, spelledBy, recordOf, lengthOf}
 use Rattle.writer.specs.Text.{digitText, bytesText, recordText}
 use Rattle.writer.proofs.Spelling.{bytes-length}
 
@@ -92,7 +92,7 @@ pub record Good (r : List ℕ) : Type 0 where
   pub size : length r ≡ 5 + lengthOf r
 
 module _ (r : List ℕ) (good : Good r) where
-  colon-byte : (i : ℕ) → i < length r → byteAt (colon ∷ bytesText r) (1 + 2 * i) ≡ getD r i 0
+  pub colon-byte : (i : ℕ) → i < length r → byteAt (colon ∷ bytesText r) (1 + 2 * i) ≡ getD r i 0
   colon-byte i h =
       let one : 1 + 2 * i ≡ suc (2 * i) = omega arith in
       let two : suc (2 * i) + 1 ≡ suc (2 * i + 1) = omega arith in
@@ -104,30 +104,32 @@ module _ (r : List ℕ) (good : Good r) where
       let asked = colon-byte 0 (omega (arith, good .size)) in
       simp (digits-bytes r (good .small), eq-eqb (suc (length (bytesText r))) (1 + 2 * (5 + byteAt (colon ∷ bytesText r) 1)) (omega (arith, asked, good .size, bytes-length r)))
 
-  line-spells : recordOf (recordText r) ≡ r
+  pub line-spells : recordOf (recordText r) ≡ r
   unfolding recordText bodyOf atEnd spelledBy
   line-spells =
       rw (body-bytes r, colon-shaped)
       (sym (is-tabulate 0 (5 + byteAt (colon ∷ bytesText r) 1) (λ i. byteAt (colon ∷ bytesText r) (1 + 2 * i)) r
       (omega (arith, colon-byte 0 (omega (arith, good .size)), good .size)) (λ k h. sym (colon-byte k (omega (arith, colon-byte 0 (omega (arith, good .size)), good .size))))))
 
-  line-first : (rest : List ℕ) → lines (recordText r ++ rest) ≡ recordText r ∷ lines rest
-  unfolding recordText lines
-  line-first rest = rw (append-assoc (bytesText r) (LF ∷ []) rest, lines-bytes r rest)
+-- lines one after the other
+line-first : (r rest : List ℕ) → lines (recordText r ++ rest) ≡ recordText r ∷ lines rest
+unfolding recordText lines
+line-first r rest = rw (append-assoc (bytesText r) (LF ∷ []) rest, lines-bytes r rest)
 
-  record-first : (rest : List ℕ) → records (recordText r ++ rest) ≡ r ∷ records rest
-  record-first rest = rw (line-first rest, line-spells)
-
--- the records of lines one after the other
-pub records-front : (n : ℕ) (f : ℕ → List ℕ) → ((k : ℕ) → k < n → Good (f k)) → (rest : List ℕ)
-    → records (flatMap recordText (tabulate n f) ++ rest) ≡ tabulate n f ++ records rest
+pub lines-front : (n : ℕ) (f : ℕ → List ℕ) (rest : List ℕ) → lines (flatMap recordText (tabulate n f) ++ rest) ≡ tabulate n (λ k. recordText (f k)) ++ lines rest
 unfolding flatMap tabulate
-records-front zero f good rest = refl
-records-front (suc n) f good rest =
+lines-front zero f rest = refl
+lines-front (suc n) f rest =
     let later = flatMap recordText (tabulate n (λ k. f (suc k))) in
-    ap records (append-assoc (recordText (f 0)) later rest) ∙ record-first (f 0) (good 0 (omega arith)) (later ++ rest)
-    ∙ ap (λ (rs : List (List ℕ)). f 0 ∷ rs) (records-front n (λ k. f (suc k)) (λ k h. good (suc k) (omega arith)) rest)
+    ap lines (append-assoc (recordText (f 0)) later rest) ∙ line-first (f 0) (later ++ rest)
+    ∙ ap (λ (ls : List (List ℕ)). recordText (f 0) ∷ ls) (lines-front n (λ k. f (suc k)) rest)
 
-pub records-one : (r : List ℕ) → Good r → records (recordText r) ≡ r ∷ []
+pub lines-one : (r : List ℕ) → lines (recordText r) ≡ recordText r ∷ []
 unfolding lines
-records-one r good = ap records (sym (append-nil (recordText r))) ∙ record-first r good []
+lines-one r = ap lines (sym (append-nil (recordText r))) ∙ line-first r []
+
+-- their records
+pub map-front : {A B : Type 0} (g : A → B) (n : ℕ) (f : ℕ → A) (rest : List A) → map g (tabulate n f ++ rest) ≡ tabulate n (λ k. g (f k)) ++ map g rest
+unfolding tabulate
+map-front g zero f rest = refl
+map-front {B = B} g (suc n) f rest = ap (λ (l : List B). g (f 0) ∷ l) (map-front g n (λ k. f (suc k)) rest)

@@ -9,11 +9,12 @@ use native.Mathlib.Nat.{le-of-suc-le-suc, not-suc-le-zero, mul-suc, mul-zero}
 use native.Mathlib.Omega.{arith}
 use lib.ListN.{length, getD, take, length-append, List·getD-append}
 use lib.Seq.{take-append-le, getD-at}
-use borrow.Author.Tests.{lt-ltb, le-ltb, le-leb}
 use Rattle.laws.specs.Said.{accepted}
 use Rattle.laws.specs.Lists.{tabulate, firstOf}
-use Rattle.laws.proofs.Lists.{length-tabulate, getD-tabulate, is-tabulate, first-is, first-none}
-use Rattle.hex.specs.Lines.{total}
+use Rattle.laws.proofs.Lists.{length-tabulate, getD-tabulate, is-tabulate, tabulate-cut, first-is, first-none}
+use Rattle.laws.specs.Sums.{sumAll}
+use Rattle.laws.proofs.Sums.{sum-last}
+use Rattle.laws.proofs.Placing.{span-in, span-after}
 use Rattle.hex.specs.Records.{lengthOf, addressOf, typeOf, sumOf, isEnd, gives, dataAt, byteIn, isGiven, countOf, faultOf}
 use Rattle.hex.specs.Reading.{nth, faultAt, stopsAt, stopOf, judged}
 use Rattle.hex.proofs.Faults.{is-end, other-type, fault-end, fault-none}
@@ -29,15 +30,11 @@ small-last : (l : List ℕ) (b : ℕ) → Small l → b < 256 → Small (l ++ (b
 small-last [] b s h = small-cons b [] h (λ i. omega arith)
 small-last (a ∷ l) b s h = small-cons a (l ++ (b ∷ [])) (s 0) (small-last l b (λ i. s (suc i)) h)
 
-pub small-tabulate : (n : ℕ) (f : ℕ → ℕ) → ((k : ℕ) → f k < 256) → Small (tabulate n f)
+pub small-tabulate : (n : ℕ) (f : ℕ → ℕ) → ((k : ℕ) → k < n → f k < 256) → Small (tabulate n f)
 unfolding tabulate
 small-tabulate zero f h = λ i. omega arith
-small-tabulate (suc n) f h = small-cons (f 0) (tabulate n (λ k. f (suc k))) (h 0) (small-tabulate n (λ k. f (suc k)) (λ k. h (suc k)))
-
-total-last : (l : List ℕ) (b : ℕ) → total (l ++ (b ∷ [])) ≡ total l + b
-unfolding total
-total-last [] b = omega arith
-total-last (a ∷ l) b = omega (arith, total-last l b)
+small-tabulate (suc n) f h =
+    small-cons (f 0) (tabulate n (λ k. f (suc k))) (h 0 (omega arith)) (small-tabulate n (λ k. f (suc k)) (λ k l. h (suc k) (omega arith)))
 
 -- what the reader finds in a record
 pub record Parts (kind address count : ℕ) (r : List ℕ) : Type 0 where
@@ -56,8 +53,8 @@ record-parts kind address count bytes hk ha hc size small =
     small-cons (length bytes) (address / 256 ∷ address % 256 ∷ kind ∷ bytes) (omega arith)
     (small-cons (address / 256) (address % 256 ∷ kind ∷ bytes) (omega arith) (small-cons (address % 256) (kind ∷ bytes) (omega arith) (small-cons kind bytes hk small))) in
     record {
-      good = record { small = small-last front (checksum front) fronted (omega arith); size = length-append front (checksum front ∷ []) ∙ omega arith };
-      summed = ap (λ n. n % 256) (total-last front (checksum front)) ∙ omega arith;
+      good = record { small = small-last front (checksum (sumOf front)) fronted (omega arith); size = length-append front (checksum (sumOf front) ∷ []) ∙ omega arith };
+      summed = ap (λ n. n % 256) (sum-last front (checksum (sumOf front))) ∙ omega arith;
       typed = refl;
       placed = omega arith;
       counted = size;
@@ -67,11 +64,11 @@ record-parts kind address count bytes hk ha hc size small =
 module _ (kind address count : ℕ) (r : List ℕ) (p : Parts kind address count r) (a : ℕ) where
   gives-here : address ≤ a → a < address + count → gives r a ≡ true
   unfolding gives
-  gives-here h g = simp (le-leb (addressOf r) a (omega (arith, p .placed)), lt-ltb a (addressOf r + lengthOf r) (omega (arith, p .placed, p .counted)))
+  gives-here h g = span-in (addressOf r) (lengthOf r) a (omega (arith, p .placed)) (omega (arith, p .placed, p .counted))
 
   gives-later : address + count ≤ a → gives r a ≡ false
   unfolding gives
-  gives-later h = simp (le-leb (addressOf r) a (omega (arith, p .placed)), le-ltb a (addressOf r + lengthOf r) (omega (arith, p .placed, p .counted)))
+  gives-later h = span-after (addressOf r) (lengthOf r) a (omega (arith, p .placed, p .counted))
 
 -- records by a rule
 module _ (a : ℕ) where
@@ -88,15 +85,9 @@ module _ (a : ℕ) where
   byte-first none (suc n) f rest (suc k) h before here =
       rw (before 0 (omega arith)) (byte-first none n (λ k. f (suc k)) rest k (le-of-suc-le-suc h) (λ j l. before (suc j) (omega arith)) here)
 
-take-tabulate : {A : Type 0} (k n : ℕ) (f : ℕ → A) → k ≤ n → take k (tabulate n f) ≡ tabulate k f
-unfolding tabulate
-take-tabulate zero n f h = refl
-take-tabulate (suc k) zero f h = absurd (not-suc-le-zero h)
-take-tabulate {A} (suc k) (suc n) f h = ap (λ (l : List A). f 0 ∷ l) (take-tabulate k n (λ k. f (suc k)) (le-of-suc-le-suc h))
-
 count-front : (count n : ℕ) (f : ℕ → List ℕ) → ((k : ℕ) → k < n → lengthOf (f k) ≡ count) → (rest : List (List ℕ))
     → countOf (tabulate n f ++ rest) ≡ count * n + countOf rest
-unfolding tabulate total
+unfolding tabulate sumAll
 count-front count zero f same rest = omega (arith, mul-zero count)
 count-front count (suc n) f same rest =
     omega (arith, same 0 (omega arith), count-front count n (λ k. f (suc k)) (λ k h. same (suc k) (omega arith)) rest, mul-suc count n)
@@ -110,7 +101,7 @@ module _ (image : List ℕ) (small : Small image) where
   unfolding recordIn
   data-parts n h =
       record-parts 0 (16 * n) 16 (bytesIn image n) (omega arith) (omega arith) (omega arith) (length-tabulate 16 (λ i. getD image (16 * n + i) 0))
-      (small-tabulate 16 (λ i. getD image (16 * n + i) 0) (λ k. small (16 * n + k)))
+      (small-tabulate 16 (λ i. getD image (16 * n + i) 0) (λ k l. small (16 * n + k)))
 
   -- its byte at an address
   data-byte : (n a : ℕ) → n < 512 → 16 * n ≤ a → a < 16 * n + 16 → dataAt (recordIn image n) a ≡ getD image a 0
@@ -137,7 +128,7 @@ module _ (image : List ℕ) (small : Small image) where
   take-data : (k : ℕ) → k < 512 → take k (recordsOf image) ≡ tabulate k (recordIn image)
   take-data k h =
       take-append-le k (tabulate 512 (recordIn image)) (endRecord ∷ []) (omega (arith, length-tabulate 512 (recordIn image)))
-      ∙ take-tabulate k 512 (recordIn image) (omega arith)
+      ∙ tabulate-cut k 512 (recordIn image) (omega arith)
 
   -- no data record stops a reader, and the end record does
   data-sound : (k : ℕ) → k < 512 → faultOf (tabulate k (recordIn image)) (recordIn image k) ≡ 0
@@ -166,7 +157,7 @@ module _ (image : List ℕ) (small : Small image) where
   stop-here = rw rs-length (first-is 513 (stopsAt (recordsOf image)) 512 (omega arith) data-goes end-stops)
 
   counted-all : countOf (recordsOf image) ≡ 8192
-  unfolding total
+  unfolding sumAll
   counted-all =
       count-front 16 512 (recordIn image) (λ k h. data-parts k h .counted) (endRecord ∷ []) ∙ omega (arith, end-parts .counted)
 

@@ -1,7 +1,7 @@
 -- The statements of specs/RoundTrip.antt, proved. The records of an image's text are the records that it was made of, so the reader accepts
 -- the text and gives the image back; all else follows from that and from image and font being one thing in two forms.
 -- Assumes nothing.
-use mathlib.Core.Path.{_≡_, sym, _∙_, ap}
+use mathlib.Core.Path.{_≡_, sym, _∙_, ap, subst}
 use mathlib.Core.Bool.{Bool, true, false}
 use mathlib.Core.List.{List, [], _∷_, _++_, map}
 use Prim.Native.Nat.{ℕ, _+_, _*_, _/_, _%_, _<_, _≤_}
@@ -14,9 +14,9 @@ use Rattle.laws.specs.Pick.{pick}
 use Rattle.laws.specs.Said.{accepted}
 use Rattle.font.specs.Font.{isFont, rowOf}
 use Rattle.laws.specs.Lists.{tabulate}
-use Rattle.image.specs.Image.{imageOf, fontOf, dueAt, hasRow, cellAt, lineAt}
+use Rattle.image.specs.Image.{imageOf, fontOf, halfAt, dueAt, hasRow, cellAt, rowAt}
 use Rattle.image.specs.Image as turning
-use Rattle.laws.proofs.Lists.{length-tabulate}
+use Rattle.laws.proofs.Lists.{length-tabulate, tabulate-same}
 use Rattle.image.proofs.Turning.{font-row, font-again, image-accepted, image-again, gives-font}
 use Rattle.hex.specs.Lines.{lines}
 use Rattle.hex.specs.Records.{recordOf, records, gives, dataAt, byteIn}
@@ -25,20 +25,21 @@ use Rattle.hex.specs.Reading as reading
 use Rattle.hex.proofs.Given.{record-small}
 use Rattle.writer.specs.Text.{recordText, recordIn, endRecord, recordsOf, textOf}
 use Rattle.writer.specs.Writing as writing
-use Rattle.writer.proofs.Lists.{flat-append, flat-one}
 use Rattle.writer.proofs.Spelling.{text-length}
-use Rattle.roundtrip.specs.RoundTrip.{IsImage, TextReadsBack, writtenIn, readIn, FontComesBack, HasWritersForm, OneTextAnImage, WritingGivesTheText, RewritingGivesTheText, TurnedImageIsAFonts}
-use Rattle.roundtrip.proofs.Lines.{Small, records-front, records-one}
+use Rattle.roundtrip.specs.Form.{HasWritersForm}
+use Rattle.roundtrip.specs.RoundTrip.{IsImage, TextReadsBack, writtenIn, readIn, FontComesBack, FormIsTheTexts, OneTextAnImage, WritingGivesTheText, RewritingGivesTheText, TurnedImageIsAFonts}
+use Rattle.roundtrip.proofs.Lines.{Small, line-spells, map-front}
+use Rattle.roundtrip.proofs.Form.{text-lines, form-of, of-form}
 use Rattle.roundtrip.proofs.Records.{small-tabulate, end-parts, data-parts, image-judged, image-given}
 
 -- the text of an image
 module _ (image : List ℕ) (whole : IsImage image) where
   text-records : records (textOf image) ≡ recordsOf image
-  unfolding textOf
   text-records =
-      ap records (flat-append recordText (tabulate 512 (recordIn image)) (endRecord ∷ []))
-      ∙ records-front 512 (recordIn image) (λ k h. data-parts image (whole .bytes) k h .good) _
-      ∙ ap (λ (rs : List (List ℕ)). tabulate 512 (recordIn image) ++ rs) (ap records (flat-one recordText endRecord) ∙ records-one endRecord (end-parts .good))
+      ap (map recordOf) (text-lines image) ∙ map-front recordOf 512 (λ n. recordText (recordIn image n)) (recordText endRecord ∷ [])
+      ∙ ap (λ (rs : List (List ℕ)). rs ++ (recordOf (recordText endRecord) ∷ []))
+      (tabulate-same 512 _ _ (λ n h. line-spells (recordIn image n) (data-parts image (whole .bytes) n h .good)))
+      ∙ ap (λ (r : List ℕ). tabulate 512 (recordIn image) ++ (r ∷ [])) (line-spells endRecord (end-parts .good))
 
   text-image : imageIn (textOf image) ≡ image
   text-image = ap (λ rs. tabulate 8192 (byteIn 255 rs)) text-records ∙ image-given image (whole .bytes) (whole .size)
@@ -59,17 +60,17 @@ text-reads-back image room whole fits = (text-accepted image whole room fits, te
 -- a font's image is 8,192 bytes
 module _ (font : List ℕ) (e : isFont font ≡ true) where
   due-small : (a : ℕ) → dueAt font a < 256
-  unfolding dueAt
-  due-small a = go (hasRow a) (ltb a 4096) (font-row font e (18 * cellAt a + lineAt a))
+  unfolding dueAt halfAt
+  due-small a = go (hasRow a) (ltb a 4096) (font-row font e (18 * cellAt a + rowAt a))
     where
-      go : (b d : Bool) → rowOf font (cellAt a) (lineAt a) ≤ 4095
-          → pick b (pick d (rowOf font (cellAt a) (lineAt a) % 256) (240 + rowOf font (cellAt a) (lineAt a) / 256)) 255 < 256
+      go : (b d : Bool) → rowOf font (cellAt a) (rowAt a) ≤ 4095
+          → pick b (pick d (rowOf font (cellAt a) (rowAt a) % 256) (240 + rowOf font (cellAt a) (rowAt a) / 256)) 255 < 256
       go true true h = omega arith
       go true false h = omega arith
       go false d h = omega arith
 
   font-image : IsImage (imageOf font)
-  font-image = record { size = length-tabulate 8192 (dueAt font); bytes = small-tabulate 8192 (dueAt font) due-small }
+  font-image = record { size = length-tabulate 8192 (dueAt font); bytes = small-tabulate 8192 (dueAt font) (λ a h. due-small a) }
 
   module _ (text : List ℕ) (fits : 22540 ≤ length text) where
     font-accepted : writing.answerOf font (length text) ≡ accepted 0
@@ -96,16 +97,22 @@ font-comes-back font text image rows e fits room size =
       is-font = rw turns (ap fontOf is ∙ font-again font e);
     }
 
+-- the texts of the writer's form are the texts of images
+pub form-is-the-texts : FormIsTheTexts
+form-is-the-texts text = (of-form text, λ t. subst HasWritersForm (sym (t .is-text)) (form-of (t .image) (t .whole)))
+
 pub one-text-an-image : OneTextAnImage
 one-text-an-image text other f g same =
-    let one = ap imageIn (f .form) ∙ text-image (f .image) (f .whole) in
-    let two = ap imageIn (g .form) ∙ text-image (g .image) (g .whole) in
-    f .form ∙ ap textOf (sym one ∙ same ∙ two) ∙ sym (g .form)
+    let t = of-form text f in
+    let u = of-form other g in
+    let one = ap imageIn (t .is-text) ∙ text-image (t .image) (t .whole) in
+    let two = ap imageIn (u .is-text) ∙ text-image (u .image) (u .whole) in
+    t .is-text ∙ ap textOf (sym one ∙ same ∙ two) ∙ sym (u .is-text)
 
 pub writing-gives-the-text : WritingGivesTheText
 writing-gives-the-text font room e fits =
     let written = font-written font e room fits in
-    let formed : HasWritersForm (writtenIn font room) = record { image = imageOf font; whole = font-image font e; form = written } in
+    let formed : HasWritersForm (writtenIn font room) = subst HasWritersForm (sym written) (form-of (imageOf font) (font-image font e)) in
     let has : imageIn (writtenIn font room) ≡ imageOf font = ap imageIn written ∙ text-image (imageOf font) (font-image font e) in
     record { form = formed; has = has; only = λ other f g. one-text-an-image other (writtenIn font room) f formed (g ∙ sym has) }
 
@@ -124,5 +131,5 @@ byte-small (l ∷ ls) a = go (gives (recordOf l) a) (byte-small ls a)
 
 pub turned-image-is-a-fonts : TurnedImageIsAFonts
 turned-image-is-a-fonts text e =
-    let bytes : Small (imageIn text) = small-tabulate 8192 (byteIn 255 (records text)) (byte-small (lines text)) in
+    let bytes : Small (imageIn text) = small-tabulate 8192 (byteIn 255 (records text)) (λ a h. byte-small (lines text) a) in
     (gives-font (imageIn text) 1116 e bytes, sym (image-again (imageIn text) 1116 e bytes))

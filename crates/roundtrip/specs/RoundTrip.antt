@@ -15,6 +15,7 @@ use Rattle.hex.specs.Reading.{imageIn}
 use Rattle.hex.specs.Reading as reading
 use Rattle.writer.specs.Text.{textOf, textBytes}
 use Rattle.writer.specs.Writing as writing
+use Rattle.roundtrip.specs.Form.{HasWritersForm}
 
 -- 8,192 bytes
 pub record IsImage (image : List ℕ) : Type 0 where
@@ -47,11 +48,15 @@ FontComesBack =
     (font text image rows : List ℕ) → isFont font ≡ true → textBytes ≤ length text → imageBytes ≤ length image → length rows ≡ fontRows
     → ComesBack font text image rows
 
--- a text of the writer's form: the text of some image of 8,192 bytes
-pub record HasWritersForm (text : List ℕ) : Type 0 where
+-- the text of some image of 8,192 bytes
+pub record IsAnImagesText (text : List ℕ) : Type 0 where
   pub image : List ℕ
   pub whole : IsImage image
-  pub form : text ≡ textOf image
+  pub is-text : text ≡ textOf image
+
+-- The texts of the writer's form, line by line, are the texts of images, and no others.
+abbrev pub FormIsTheTexts : Type 0
+FormIsTheTexts = (text : List ℕ) → (HasWritersForm text → IsAnImagesText text) × (IsAnImagesText text → HasWritersForm text)
 
 -- No two texts of the writer's form have one image.
 abbrev pub OneTextAnImage : Type 0

@@ -3,38 +3,26 @@
 -- give at each address.
 -- Assumes nothing.
 use mathlib.Core.Path.{_≡_, refl, sym, _∙_, ap, subst}
-use mathlib.Core.Bool.{Bool, true, false, not}
+use mathlib.Core.Bool.{Bool, true, false, not, false≢true}
 use mathlib.Core.List.{List, [], _∷_}
 use Prim.Native.Nat.{ℕ, zero, suc, _+_, _-_, _<_, _≤_}
 use native.Mathlib.Nat.{not-suc-le-zero, le-of-suc-le-suc}
 use native.Mathlib.Decide.{decLt, ℕ-discrete}
 use native.Mathlib.Omega.{arith}
-use lib.Dec.{eqb, leb, ltb}
+use lib.Dec.{eqb, ltb}
 use lib.ListN.{length, take}
 use lib.Seq.{getD-take, length-take-le}
-use borrow.Author.Tests.{ltb-true, ltb-false, leb-true, lt-ltb, le-ltb, le-leb, eqb-true, eqb-false, eq-eqb, ne-eqb}
+use borrow.Author.Tests.{ltb-true, ltb-false, lt-ltb, le-ltb, eqb-true, eqb-false, eq-eqb, ne-eqb}
 use Rattle.laws.specs.Pick.{pick}
 use Rattle.laws.specs.Said.{Said, accepted, refused}
 use Rattle.laws.specs.Lists.{tabulate, firstOf}
-use Rattle.laws.proofs.Lists.{both-parts, first-is, first-none, first-before, first-most, tabulate-same}
+use Rattle.laws.proofs.Lists.{first-is, first-none, first-before, first-at, first-most, tabulate-same}
+use Rattle.laws.proofs.Patched.{span-has}
+use Rattle.laws.proofs.Placing.{span-in}
 use Rattle.hex.specs.Lines.{lines, placeOf}
 use Rattle.hex.specs.Records.{records, lengthOf, addressOf, typeOf, sumOf, isEnd, gives, dataAt, byteIn, isGiven, freshIn, countOf, faultOf}
 use Rattle.hex.specs.Reading.{nth, faultAt, stopsAt, stopOf, judged, verdict, imageIn}
 use Rattle.hex.proofs.Given.{in-none}
-
-never : {A : Type 0} → true ≡ false → A
-never e = let z : _≡_ {A = ℕ} 0 1 = cc in absurd (omega arith)
-
--- the first that passes does pass
-first-at : (n : ℕ) (test : ℕ → Bool) → firstOf n test < n → test (firstOf n test) ≡ true
-unfolding firstOf
-first-at zero test h = absurd (not-suc-le-zero h)
-first-at (suc n) test h = go (first-at n (λ k. test (suc k))) (test 0) refl h
-  where
-    go : (firstOf n (λ k. test (suc k)) < n → test (suc (firstOf n (λ k. test (suc k)))) ≡ true) → (b : Bool) → test 0 ≡ b
-        → pick b 0 (suc (firstOf n (λ k. test (suc k)))) < suc n → test (pick b 0 (suc (firstOf n (λ k. test (suc k))))) ≡ true
-    go ih true e h = e
-    go ih false e h = ih (le-of-suc-le-suc h)
 
 -- a record that is good by itself
 pub record Fine (r : List ℕ) : Type 0 where
@@ -76,9 +64,7 @@ module _ (es : List (List ℕ)) (r : List ℕ) where
   fresh-apart : lengthOf r ≤ freshIn es r → (a : ℕ) → gives r a ≡ true → isGiven es a ≡ false
   unfolding gives
   fresh-apart h a g =
-      let parts = both-parts (leb (addressOf r) a) (ltb a (addressOf r + lengthOf r)) g in
-      let low : addressOf r ≤ a = leb-true _ _ (parts .0) in
-      let high : a < addressOf r + lengthOf r = ltb-true _ _ (parts .1) in
+      let within = span-has (addressOf r) (lengthOf r) a g in
       let e : addressOf r + (a - addressOf r) ≡ a = omega arith in
       subst (λ (n : ℕ). isGiven es n ≡ false) e (first-before (lengthOf r) (λ i. isGiven es (addressOf r + i)) (a - addressOf r) (omega arith))
 
@@ -86,18 +72,18 @@ module _ (es : List (List ℕ)) (r : List ℕ) where
   unfolding gives
   apart-fresh h =
       let e = first-none (lengthOf r) (λ i. isGiven es (addressOf r + i)) (λ i l.
-      h (addressOf r + i) (simp (le-leb (addressOf r) (addressOf r + i) (omega arith), lt-ltb (addressOf r + i) (addressOf r + lengthOf r) (omega arith)))) in
+      h (addressOf r + i) (span-in (addressOf r) (lengthOf r) (addressOf r + i) (omega arith) (omega arith))) in
       omega arith
 
 -- given by some of them, by place
 pub given-none : (es : List (List ℕ)) (a : ℕ) → isGiven es a ≡ false → (j : ℕ) → j < length es → gives (nth es j) a ≡ true → ⊥
 unfolding isGiven
 given-none [] a e j h g = absurd (not-suc-le-zero h)
-given-none (r ∷ es) a e zero h g = never (sym (ap (λ b. pick b true (isGiven es a)) g) ∙ e)
+given-none (r ∷ es) a e zero h g = false≢true (sym e ∙ ap (λ b. pick b true (isGiven es a)) g)
 given-none (r ∷ es) a e (suc j) h g = go (gives r a) e (λ f. given-none es a f j (le-of-suc-le-suc h) g)
   where
     go : (b : Bool) → pick b true (isGiven es a) ≡ false → (isGiven es a ≡ false → ⊥) → ⊥
-    go true e k = never e
+    go true e k = absurd (false≢true (sym e))
     go false e k = k e
 
 pub none-given : (es : List (List ℕ)) (a : ℕ) → ((j : ℕ) → j < length es → gives (nth es j) a ≡ true → ⊥) → isGiven es a ≡ false
@@ -122,7 +108,7 @@ going-on : (rs : List (List ℕ)) (j : ℕ) → stopsAt rs j ≡ false → (faul
 going-on rs j e = go (ltb 0 (faultAt rs j)) refl e
   where
     go : (b : Bool) → ltb 0 (faultAt rs j) ≡ b → pick b true (isEnd (nth rs j)) ≡ false → (faultAt rs j ≡ 0) × (isEnd (nth rs j) ≡ false)
-    go true h e = never e
+    go true h e = absurd (false≢true (sym e))
     go false h e = (let l = ltb-false 0 (faultAt rs j) h in omega arith, e)
 
 earlier-at : (rs : List (List ℕ)) (i j : ℕ) → i < j → j < length rs → (i < length (take j rs)) × (nth (take j rs) i ≡ nth rs i)
@@ -171,7 +157,7 @@ good-of text n e =
 
     stops : (b : Bool) → ltb 0 (faultAt (records text) (stopOf (records text))) ≡ b → b ≡ false
         → pick b true (isEnd (nth (records text) (stopOf (records text)))) ≡ true → isEnd (nth (records text) (stopOf (records text))) ≡ true
-    stops true h e t = never e
+    stops true h e t = absurd (false≢true (sym e))
     stops false h e t = t
 
     go : (a : Bool) → ltb (stopOf (records text)) (length (records text)) ≡ a → (f : Bool) → ltb 0 (faultAt (records text) (stopOf (records text))) ≡ f
@@ -308,7 +294,7 @@ module _ (rs rs′ : List (List ℕ)) (order : Reordered rs rs′) (all : Good r
       go (no h) =
           let none : isGiven rs a ≡ false = none-given rs a (λ j l g.
           let most = first-most (length rs) (λ j. gives (nth rs j) a) in
-          never (sym g ∙ first-before (length rs) (λ j. gives (nth rs j) a) j (omega arith))) in
+          false≢true (sym (first-before (length rs) (λ j. gives (nth rs j) a) j (omega arith)) ∙ g)) in
           in-none 255 rs a none ∙ sym (in-none 255 rs′ a (not-there a none))
 
   pub reordered-image : tabulate 8192 (byteIn 255 rs) ≡ tabulate 8192 (byteIn 255 rs′)

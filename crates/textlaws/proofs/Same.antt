@@ -3,22 +3,22 @@
 -- Assumes nothing.
 use mathlib.Core.Path.{_≡_, refl, sym, _∙_, ap}
 use mathlib.Core.Bool.{Bool, true, false}
-use mathlib.Core.List.{List, [], _∷_, _++_}
+use mathlib.Core.List.{List, [], _∷_}
 use Prim.Native.Nat.{ℕ, zero, suc, _+_, _-_, _*_, _<_}
 use native.Mathlib.Omega.{arith}
 use lib.Dec.{ltb}
-use lib.ListN.{length, getD, drop, length-append, length-drop, List·getD-append}
-use lib.Seq.{getD-drop, take-at, drop-at}
+use lib.ListN.{length, getD, drop, length-drop}
+use lib.Seq.{getD-drop}
 use borrow.Author.Tests.{ltb-true}
 use Rattle.laws.specs.Pick.{pick}
 use Rattle.laws.specs.Said.{Said, accepted, refused}
 use Rattle.laws.specs.Lists.{tabulate}
 use Rattle.laws.proofs.Lists.{tabulate-same}
 use Rattle.hex.specs.Digits.{digit, byteAt}
-use Rattle.hex.specs.Lines.{lines, atEnd, placeOf}
-use Rattle.hex.specs.Records.{records, recordOf, spelledBy, isShaped, allDigits, byteIn, countOf}
+use Rattle.hex.specs.Lines.{lines, placeOf}
+use Rattle.hex.specs.Records.{records, spelledBy, isShaped, allDigits, byteIn, countOf}
 use Rattle.hex.specs.Reading.{faultAt, stopOf, judged, verdict, imageIn}
-use Rattle.hex.proofs.Lines.{Plain, body-cut}
+use Rattle.textlaws.specs.Alike.{AlikeBodies}
 
 -- whether lines are judged good depends on their records
 judged-same : (ls ls′ rs : List (List ℕ)) (k n : ℕ) → judged ls rs k ≡ accepted n → judged ls′ rs k ≡ accepted n
@@ -45,12 +45,6 @@ same-verdict text text′ n e h =
 pub same-image : (text text′ : List ℕ) → records text ≡ records text′ → imageIn text ≡ imageIn text′
 same-image text text′ e = ap (λ (rs : List (List ℕ)). tabulate 8192 (byteIn 255 rs)) e
 
--- lines without their ends that are alike: the same but for the case of digits
-pub record Alike (body body′ : List ℕ) : Type 0 where
-  pub size : length body ≡ length body′
-  pub first : getD body 0 0 ≡ getD body′ 0 0
-  pub digits : (k : ℕ) → digit (getD body (1 + k) 0) ≡ digit (getD body′ (1 + k) 0)
-
 all-alike : (l l′ : List ℕ) → length l ≡ length l′ → ((k : ℕ) → digit (getD l k 0) ≡ digit (getD l′ k 0)) → allDigits l ≡ allDigits l′
 unfolding allDigits
 all-alike [] [] e h = refl
@@ -58,7 +52,7 @@ all-alike [] (c ∷ l′) e h = absurd (omega arith)
 all-alike (c ∷ l) [] e h = absurd (omega arith)
 all-alike (c ∷ l) (c′ ∷ l′) e h = rw (h 0, all-alike l l′ (omega arith) (λ k. h (suc k)))
 
-module _ (body body′ : List ℕ) (alike : Alike body body′) where
+module _ (body body′ : List ℕ) (alike : AlikeBodies body body′) where
   bytes-alike : (k : ℕ) → byteAt body (1 + k) ≡ byteAt body′ (1 + k)
   bytes-alike k =
       let e : 1 + k + 1 ≡ 1 + (k + 1) = omega arith in
@@ -95,16 +89,3 @@ cases-alike c h = go c h
     go (suc (suc (suc (suc zero)))) h = refl
     go (suc (suc (suc (suc (suc zero))))) h = refl
     go (suc (suc (suc (suc (suc (suc c)))))) h = absurd (omega arith)
-
--- a line's end is not part of its record: LF, CR LF or none
-pub ended-record : (body end : List ℕ) → ((k : ℕ) → k < length body → Plain (getD body k 0)) → atEnd end ≡ true → recordOf (body ++ end) ≡ spelledBy body
-ended-record body end plain e =
-    ap spelledBy
-    (body-cut (length body) (body ++ end) (omega (arith, length-append body end))
-    (λ k h. rw (List·getD-append body end 0 k h) (plain k h))
-    (rw (drop-at body end (length body) refl) e)
-    ∙ take-at body end (length body) refl)
-
-pub ends : (atEnd [] ≡ true) × (atEnd (10 ∷ []) ≡ true) × (atEnd (13 ∷ (10 ∷ [])) ≡ true)
-unfolding atEnd
-ends = (refl, refl, refl)

@@ -5,11 +5,11 @@ use mathlib.Core.Path.{_≡_, refl, sym, _∙_, ap}
 use mathlib.Core.List.{List, [], _∷_, _++_, flatMap, append-assoc, append-nil}
 use Prim.Native.Nat.{ℕ, zero, suc, _+_, _*_}
 use native.Mathlib.Nat.{add-zero, mul-zero, mul-suc}
-use native.Mathlib.Numerals.{add-one}
 use native.Mathlib.Omega.{arith}
 use lib.ListN.{length, set, length-append}
 use lib.Seq.{sets}
 use Rattle.laws.specs.Lists.{tabulate}
+use Rattle.laws.proofs.Lists.{tabulate-more}
 
 pub sets-append : (t : List ℕ) (at : ℕ) (a b : List ℕ) → sets t at (a ++ b) ≡ sets (sets t at a) (at + length a) b
 sets-append t at [] b = rw (add-zero at)
@@ -19,14 +19,6 @@ sets-append t at (x ∷ a) b = sets-append (set t at x) (suc at) a b ∙ ap (λ 
 pub sets-three : (t : List ℕ) (at p q : ℕ) (a b c : List ℕ) → at + length a ≡ p → p + length b ≡ q
     → sets (sets (sets t at a) p b) q c ≡ sets t at (a ++ (b ++ c))
 sets-three t at p q a b c e g = sym (sets-append t at a (b ++ c) ∙ rw e (sets-append (sets t at a) p b c ∙ rw g))
-
-pub tabulate-more : {A : Type 0} (i : ℕ) (f : ℕ → A) → tabulate (i + 1) f ≡ tabulate i f ++ (f i ∷ [])
-unfolding tabulate
-tabulate-more {A} i f = rw (add-one i) (go i f)
-  where
-    go : (i : ℕ) (f : ℕ → A) → tabulate (suc i) f ≡ tabulate i f ++ (f i ∷ [])
-    go zero f = refl
-    go (suc i) f = ap (λ (l : List A). f 0 ∷ l) (go i (λ k. f (suc k)))
 
 module _ {A : Type 0} (g : A → List ℕ) where
   pub flat-append : (xs ys : List A) → flatMap g (xs ++ ys) ≡ flatMap g xs ++ flatMap g ys

@@ -2,15 +2,16 @@
 -- Assumes nothing.
 use mathlib.Core.Path.{_≡_, refl, _∙_, ap}
 use mathlib.Core.List.{List, [], _∷_, _++_, flatMap, append-assoc}
-use Prim.Native.Nat.{ℕ, suc, _+_, _-_, _*_, _/_, _%_, _≤_}
+use Prim.Native.Nat.{ℕ, suc, _+_, _*_, _/_, _%_, _≤_}
 use native.Mathlib.Nat.{mul-suc}
 use native.Mathlib.Omega.{arith}
 use lib.ListN.{length, getD, drop, set, length-append}
 use lib.Seq.{sets, length-sets, sets-eq}
 use Rattle.laws.specs.Lists.{tabulate}
 use Rattle.laws.proofs.Lists.{length-tabulate}
-use Rattle.hex.specs.Lines.{LF, total}
-use Rattle.hex.specs.Records.{colon}
+use Rattle.laws.specs.Sums.{sumAll}
+use Rattle.hex.specs.Lines.{LF}
+use Rattle.hex.specs.Records.{colon, sumOf}
 use Rattle.hex.proofs.Steps.{sum-more}
 use Rattle.writer.specs.Text.{byteText, bytesText, checksum, recordBytes, recordText, bytesIn, recordIn, endRecord, textOf}
 use Rattle.writer.specs.Steps.{frontText, backText}
@@ -29,11 +30,11 @@ record-length kind address bytes = simp (length-append, bytes-length) (omega ari
 module _ (kind address : ℕ) (bytes : List ℕ) where
   pub record-parts : recordText (recordBytes kind address bytes)
       ≡ frontText (length bytes) (address / 256) (address % 256) kind
-      ++ (bytesText bytes ++ backText (total (length bytes ∷ address / 256 ∷ address % 256 ∷ kind ∷ bytes) % 256))
+      ++ (bytesText bytes ++ backText (sumAll (length bytes ∷ address / 256 ∷ address % 256 ∷ kind ∷ bytes) % 256))
   unfolding recordText recordBytes frontText backText
   record-parts =
       let front = length bytes ∷ address / 256 ∷ address % 256 ∷ kind ∷ [] in
-      let check = checksum (front ++ bytes) in
+      let check = checksum (sumOf (front ++ bytes)) in
       ap (λ (l : List ℕ). colon ∷ l ++ (LF ∷ []))
       (flat-append byteText (front ++ bytes) (check ∷ []) ∙ ap (λ (l : List ℕ). bytesText (front ++ bytes) ++ l) (flat-one byteText check)
       ∙ ap (λ (l : List ℕ). l ++ byteText check) (flat-append byteText front bytes))
@@ -44,20 +45,20 @@ unfolding frontText flatMap
 front-length at count high low kind = refl
 
 -- the sum of a data record's bytes from that of its data
-pub frame-sum : (bytes : List ℕ) (high low spelled first whole : ℕ) → spelled ≡ total bytes % 256 → first ≡ (spelled + (16 + high)) % 256
-    → whole ≡ (first + low) % 256 → whole ≡ total (16 ∷ high ∷ low ∷ 0 ∷ bytes) % 256
-unfolding total
+pub frame-sum : (bytes : List ℕ) (high low spelled first whole : ℕ) → spelled ≡ sumAll bytes % 256 → first ≡ (spelled + (16 + high)) % 256
+    → whole ≡ (first + low) % 256 → whole ≡ sumAll (16 ∷ high ∷ low ∷ 0 ∷ bytes) % 256
+unfolding sumAll
 frame-sum bytes high low spelled first whole e g h = omega arith
 
 -- a data record's parts, stored in turn
 pub record-stored : (t : List ℕ) (at address : ℕ) (bytes : List ℕ) (sum : ℕ) → length bytes ≡ 16
-    → sum ≡ total (16 ∷ address / 256 ∷ address % 256 ∷ 0 ∷ bytes) % 256
+    → sum ≡ sumAll (16 ∷ address / 256 ∷ address % 256 ∷ 0 ∷ bytes) % 256
     → sets (sets (sets t at (frontText 16 (address / 256) (address % 256) 0)) (at + 9) (bytesText bytes)) (at + 9 + 32) (backText sum)
     ≡ sets t at (recordText (recordBytes 0 address bytes))
 record-stored t at address bytes sum size e =
     rw (record-parts 0 address bytes, size, e)
     (sets-three t at (at + 9) (at + 9 + 32) (frontText 16 (address / 256) (address % 256) 0) (bytesText bytes)
-    (backText (total (16 ∷ address / 256 ∷ address % 256 ∷ 0 ∷ bytes) % 256)) (front-length at 16 (address / 256) (address % 256) 0) (omega (arith, bytes-length bytes)))
+    (backText (sumAll (16 ∷ address / 256 ∷ address % 256 ∷ 0 ∷ bytes) % 256)) (front-length at 16 (address / 256) (address % 256) 0) (omega (arith, bytes-length bytes)))
 
 -- its front, as it is stored
 pub front-stored : (t : List ℕ) (at count high low kind : ℕ)
@@ -72,22 +73,22 @@ front-stored t at count high low kind =
     rw (one, three, five, seven)
 
 pub end-parts : recordText endRecord ≡ frontText 0 0 0 1 ++ backText 1
-unfolding recordText recordBytes endRecord frontText backText flatMap total
+unfolding recordText recordBytes endRecord frontText backText flatMap sumAll
 end-parts = refl
 
 -- the end record's line is :00000001FF and LF
 pub end-line : recordText endRecord ≡ 58 ∷ 48 ∷ 48 ∷ 48 ∷ 48 ∷ 48 ∷ 48 ∷ 48 ∷ 49 ∷ 70 ∷ 70 ∷ 10 ∷ []
-unfolding recordText recordBytes endRecord flatMap total
+unfolding recordText recordBytes endRecord flatMap sumAll
 end-line = refl
 
 -- bytes given by a rule, spelled from a place on, and their eight-bit sum
 pub record Spelled (f : ℕ → ℕ) (at : ℕ) (t₀ : List ℕ) (i : ℕ) (sum : ℕ) (t : List ℕ) : Type 0 where
   pub size : length t ≡ length t₀
   pub text : t ≡ sets t₀ at (bytesText (tabulate i f))
-  pub summed : sum ≡ total (tabulate i f) % 256
+  pub summed : sum ≡ sumAll (tabulate i f) % 256
 
 pub spelled-none : (f : ℕ → ℕ) (at : ℕ) (t : List ℕ) → Spelled f at t 0 0 t
-unfolding tabulate flatMap total
+unfolding tabulate flatMap sumAll
 spelled-none f at t = record { size = refl; text = refl; summed = refl }
 
 pub spelled-more : (f : ℕ → ℕ) (at : ℕ) (t₀ : List ℕ) (i sum : ℕ) (t : List ℕ) (byte sum′ : ℕ) (t′ : List ℕ) → byte ≡ f i

@@ -7,8 +7,8 @@ use lib.Dec.{ltb}
 use lib.ListN.{length, getD}
 use Rattle.laws.specs.Pick.{pick}
 use Rattle.laws.specs.Lists.{tabulate}
-use Rattle.hex.specs.Lines.{LF, total}
-use Rattle.hex.specs.Records.{colon}
+use Rattle.hex.specs.Lines.{LF}
+use Rattle.hex.specs.Records.{colon, dataType, endType, sumOf}
 
 -- the character of a digit: 0 to 9, then A to F
 abbrev pub digitText : ℕ → ℕ
@@ -21,13 +21,13 @@ byteText byte = digitText (byte / 16) ∷ digitText (byte % 16) ∷ []
 abbrev pub bytesText : List ℕ → List ℕ
 bytesText = flatMap byteText
 
--- what takes the eight-bit sum of bytes, carries dropped, to 0
-abbrev pub checksum : List ℕ → ℕ
-checksum bytes = (256 - total bytes % 256) % 256
+-- the byte that takes an eight-bit sum, carries dropped, to 0
+abbrev pub checksum : ℕ → ℕ
+checksum sum = (256 - sum) % 256
 
 -- bytes with their checksum
 abbrev pub summed : List ℕ → List ℕ
-summed bytes = bytes ++ (checksum bytes ∷ [])
+summed bytes = bytes ++ (checksum (sumOf bytes) ∷ [])
 
 -- the bytes of a record: how many data bytes, the address (high byte first), the type, the data, the checksum
 unfoldable pub recordBytes : ℕ → ℕ → List ℕ → List ℕ
@@ -49,10 +49,10 @@ abbrev pub bytesIn : List ℕ → ℕ → List ℕ
 bytesIn image n = tabulate recordData (λ i. getD image (recordData * n + i) 0)
 
 unfoldable pub recordIn : List ℕ → ℕ → List ℕ
-recordIn image n = recordBytes 0 (recordData * n) (bytesIn image n)
+recordIn image n = recordBytes dataType (recordData * n) (bytesIn image n)
 
 unfoldable pub endRecord : List ℕ
-endRecord = recordBytes 1 0 []
+endRecord = recordBytes endType 0 []
 
 -- the records of an image
 abbrev pub recordsOf : List ℕ → List (List ℕ)

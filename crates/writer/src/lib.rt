@@ -1,15 +1,15 @@
 // The writer of a font's image as Intel's hexadecimal object format.
 ghost use mathlib.Core.Path.{_≡_};
-ghost use Prim.Native.Nat.{_+_, _*_, _%_, _<_, _≤_};
+ghost use Prim.Native.Nat.{_+_, _*_, _<_, _≤_};
 ghost use mathlib.Core.Bool.{true};
 ghost use lib.ListN.{length};
 ghost use lib.Seq.{sets};
-ghost use Rattle.font.specs.Font.{isFont};
-ghost use Rattle.image.specs.Image.{imageOf};
-ghost use Rattle.hex.specs.Lines.{total};
-ghost use Rattle.writer.specs.Text.{digitText, byteText, bytesText, recordText, bytesIn, recordIn, textOf};
+ghost use Rattle.font.specs.Font.{isFont, mostRow};
+ghost use Rattle.image.specs.Image.{imageOf, halfAt};
+ghost use Rattle.hex.specs.Records.{sumOf};
+ghost use Rattle.writer.specs.Text.{digitText, byteText, bytesText, recordText, recordData, dataRecords, bytesIn, recordIn, textOf, textBytes};
 ghost use Rattle.writer.specs.Writing.{answerOf, leftOf, said};
-ghost use Rattle.writer.specs.Steps.{frontText, backText, rowsIn, halfOf};
+ghost use Rattle.writer.specs.Steps.{frontText, backText, frontBytes, backBytes, lineBytes, rowsIn};
 
 // 512 records, and the end record's 12 bytes.
 const TEXT_BYTES: usize = 22540;
@@ -25,19 +25,6 @@ const FRONT_TEXT: usize = 9;
 const RECORD_BYTES: usize = 16;
 
 const HALF_RECORDS: usize = 256;
-
-const FONT_CELLS: usize = 62;
-
-const CELL_ROWS: usize = 18;
-
-const COLON: u8 = 58;
-
-const LF: u8 = 10;
-
-// The types of records.
-const DATA: u8 = 0;
-
-const END: u8 = 1;
 
 pub enum Written {
     Done,
@@ -63,7 +50,7 @@ pub fn write(font: &[u16], text: &mut [u8]) -> Written
 }
 
 fn put_text(font: &[u16], text: &mut [u8])
-    requires { ⌜ (isFont (now font) ≡ true) × (22540 ≤ length (now text)) ⌝ }
+    requires { ⌜ (isFont (now font) ≡ true) × (textBytes ≤ length (now text)) ⌝ }
     ensures { λ _. ⌜ now (text .exit) ≡ sets (now (text .entry)) 0 (textOf (imageOf (now (font .entry)))) ⌝ }
 {
     let mut n = 0usize;
@@ -72,20 +59,20 @@ fn put_text(font: &[u16], text: &mut [u8])
         n += 1;
     }
     let at = RECORD_TEXT * RECORDS;
-    put_front(text, at, 0, 0, 0, END);
-    put_back(text, at + FRONT_TEXT, END);
+    put_front(text, at, 0, 0, 0, hex::END);
+    put_back(text, at + FRONT_TEXT, hex::END);
 }
 
 fn put_record(font: &[u16], n: usize, text: &mut [u8])
-    requires { ⌜ (isFont (now font) ≡ true) × (n < 512) × (22540 ≤ length (now text)) ⌝ }
-    ensures { λ _. ⌜ now (text .exit) ≡ sets (now (text .entry)) (44 * n) (recordText (recordIn (imageOf (now (font .entry))) n)) ⌝ }
+    requires { ⌜ (isFont (now font) ≡ true) × (n < dataRecords) × (textBytes ≤ length (now text)) ⌝ }
+    ensures { λ _. ⌜ now (text .exit) ≡ sets (now (text .entry)) (lineBytes * n) (recordText (recordIn (imageOf (now (font .entry))) n)) ⌝ }
 {
     let at = RECORD_TEXT * n;
     let address = RECORD_BYTES * n;
     let count = RECORD_BYTES as u8;
     let high = (address / 256) as u8;
     let low = (address % 256) as u8;
-    put_front(text, at, count, high, low, DATA);
+    put_front(text, at, count, high, low, hex::DATA);
     let data = put_data(font, n, text, at + FRONT_TEXT);
     let sum = std::num::wrapping_add_u8(std::num::wrapping_add_u8(data, count + high), low);
     put_back(text, at + FRONT_TEXT + 2 * RECORD_BYTES, sum);
@@ -93,10 +80,10 @@ fn put_record(font: &[u16], n: usize, text: &mut [u8])
 
 // A record up to its data.
 fn put_front(text: &mut [u8], at: usize, count: u8, high: u8, low: u8, kind: u8)
-    requires { ⌜ at + 9 ≤ length (now text) ⌝ }
+    requires { ⌜ at + frontBytes ≤ length (now text) ⌝ }
     ensures { λ _. ⌜ now (text .exit) ≡ sets (now (text .entry)) at (frontText count high low kind) ⌝ }
 {
-    text[at] = COLON;
+    text[at] = hex::COLON;
     put_byte(text, at + 1, count);
     put_byte(text, at + 3, high);
     put_byte(text, at + 5, low);
@@ -105,21 +92,21 @@ fn put_front(text: &mut [u8], at: usize, count: u8, high: u8, low: u8, kind: u8)
 
 // The checksum that takes a record's sum to 0, and the line's end.
 fn put_back(text: &mut [u8], at: usize, sum: u8)
-    requires { ⌜ at + 3 ≤ length (now text) ⌝ }
+    requires { ⌜ at + backBytes ≤ length (now text) ⌝ }
     ensures { λ _. ⌜ now (text .exit) ≡ sets (now (text .entry)) at (backText sum) ⌝ }
 {
     put_byte(text, at, std::num::wrapping_sub_u8(0, sum));
-    text[at + 2] = LF;
+    text[at + 2] = hex::LF;
 }
 
 // The data of record n, with its eight-bit sum, carries dropped: first the bytes that hold rows, then those that hold none.
 fn put_data(font: &[u16], n: usize, text: &mut [u8], at: usize) -> u8
-    requires { ⌜ (isFont (now font) ≡ true) × (n < 512) × (at + 32 ≤ length (now text)) ⌝ }
-    ensures { λ r. ⌜ (r ≡ total (bytesIn (imageOf (now (font .entry))) n) % 256)
+    requires { ⌜ (isFont (now font) ≡ true) × (n < dataRecords) × (at + 2 * recordData ≤ length (now text)) ⌝ }
+    ensures { λ r. ⌜ (r ≡ sumOf (bytesIn (imageOf (now (font .entry))) n))
         × (now (text .exit) ≡ sets (now (text .entry)) at (bytesText (bytesIn (imageOf (now (font .entry))) n))) ⌝ }
 {
     let rows = rows_in(n);
-    let first = CELL_ROWS * (n % HALF_RECORDS / 2) + RECORD_BYTES * (n % 2);
+    let first = image::CELL_ROWS * (n % HALF_RECORDS / 2) + RECORD_BYTES * (n % 2);
     let mut sum = 0u8;
     let mut i = 0usize;
     while i < rows {
@@ -140,19 +127,19 @@ fn put_data(font: &[u16], n: usize, text: &mut [u8], at: usize) -> u8
 fn rows_in(n: usize) -> usize
     ensures { λ r. ⌜ r ≡ rowsIn n ⌝ }
 {
-    if FONT_CELLS <= n % HALF_RECORDS / 2 {
+    if image::FONT_CELLS <= n % HALF_RECORDS / 2 {
         return 0;
     }
     if n % 2 == 0 {
         return RECORD_BYTES;
     }
-    CELL_ROWS - RECORD_BYTES
+    image::CELL_ROWS - RECORD_BYTES
 }
 
 // What record n holds of a row: its low 8 bits, or its high 4 below four set bits.
 fn half_of(row: u16, n: usize) -> u8
-    requires { ⌜ row ≤ 4095 ⌝ }
-    ensures { λ r. ⌜ r ≡ halfOf n row ⌝ }
+    requires { ⌜ row ≤ mostRow ⌝ }
+    ensures { λ r. ⌜ r ≡ halfAt (recordData * n) row ⌝ }
 {
     if n < HALF_RECORDS {
         return (row % 256) as u8;

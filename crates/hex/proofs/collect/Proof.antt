@@ -1,8 +1,9 @@
 -- `hex::collect` meets its contract: how far the reading has come (`Passed`) is the invariant, and each answer is the verdict at the line met; the measure is what is left of the text.
 -- Assumes nothing.
-use Rattle.hex.proofs.Passed.{blank-length}
-use Rattle.hex.proofs.Answers.{met-next, met-sum, met-long-end, met-far-end, met-more, met-done, met-all, met-type, met-past, met-twice, met-passed}
+use Rattle.hex.proofs.Passed.{unfilled-length}
+use Rattle.hex.proofs.Answers.{Met, met-next, met-sum, met-long-end, met-far-end, met-more, met-done, met-all, met-type, met-past, met-twice, met-passed}
 use Rattle.hex.proofs.Faults.{fault-shape}
+use Rattle.laws.proofs.Said.{said-by}
 use borrow.Author.Needs.{needs}
 use Rattle.hex.proofs.Passed.{Passed, passed-none, verdict-over, verdict-fault, line-unshaped}
 use native.Mathlib.Omega.{arith}
@@ -13,10 +14,26 @@ use Rattle.hex.proofs.collect.Statement.{statement}
 use Rattle.hex.proofs.collect.Tie as tie
 
 abbrev Inv-loop : tie.InvT-loop
-Inv-loop digits text bytes₀ cells₀ at₀ count₀ bytes cells at count = Passed text at count cells × (length bytes ≡ length bytes₀) × (length cells ≡ length cells₀)
+Inv-loop digits text bytes₀ scratch₀ at₀ count₀ bytes scratch at count = Passed text at count scratch × (length bytes ≡ length bytes₀) × (length scratch ≡ length scratch₀)
 
 abbrev μ-loop : tie.MeasureT-loop
-μ-loop digits text bytes₀ cells₀ at₀ count₀ bytes cells at count = length text - at
+μ-loop digits text bytes₀ scratch₀ at₀ count₀ bytes scratch at count = length text - at
+
+-- the turn of the loop in which a line was parsed, and that line
+abbrev turn : tie.After-sum Inv-loop μ-loop → tie.At-loop Inv-loop μ-loop
+turn c = c .before .before .before .before .before .before .before
+
+abbrev met : (c : tie.After-sum Inv-loop μ-loop) → Met (turn c .before .before .before .before .before .args .text .now) (turn c .loop .at) (turn c .loop .count) (turn c .loop .scratch)
+met c = let parsed = c .before .before .before .before in
+    record {
+      bytes = _;
+      sum = _;
+      next = _;
+      before = turn c .loop .inv .0;
+      more = parsed .before .before .loop-test .taken;
+      line = sym (c .sum .given .1) ∙ parsed .parse .ensures .0;
+      front = parsed .parse .ensures .1;
+    }
 
 loop-holds : tie.Need-loop-holds Inv-loop μ-loop
 loop-holds c = let s = c .before .before .before .before in (rw (s .pre .3) (passed-none (s .args .text .now)), refl, refl)
@@ -40,9 +57,9 @@ same-length-2 : tie.Need-same-length-2 Inv-loop μ-loop
 same-length-2 c = search needs
 
 returns : tie.Need-returns Inv-loop μ-loop
-returns c = let s = c .before .before .before .before .before .before .before .before .before .before .before .before in let at = c .before .before .before .before .before .before .before .loop in (
-  sym (verdict-fault (s .args .text .now) (at .at) (at .count) (at .cells) (at .inv .0) (omega arith) 7 (omega arith)
-      (fault-shape _ _ (line-unshaped (s .args .text .now) (at .at) (sym (c .enum-told .given .1) ∙ c .before .before .before .before .parse .ensures .0)))),
+returns c = let parsed = c .before .before .before .before in let loop = parsed .before .before .before .loop in (
+  said-by (sym (verdict-fault (parsed .before .before .before .before .before .before .before .before .args .text .now) (loop .at) (loop .count) (loop .scratch) (loop .inv .0) (omega arith) 7 (omega arith)
+      (fault-shape _ _ (line-unshaped _ (loop .at) (sym (c .enum-told .given .1) ∙ parsed .parse .ensures .0))))) (omega arith) (omega arith) (omega arith),
   λ e. absurd (omega arith),
 )
 
@@ -56,8 +73,7 @@ same-length-4 : tie.Need-same-length-4 Inv-loop μ-loop
 same-length-4 c = search needs
 
 returns-2 : tie.Need-returns-2 Inv-loop μ-loop
-returns-2 c = let s = c .before .before .before .before .before .before .before .before .before .before .before .before .before .before .args in let at = c .before .before .before .before .before .before .before .before .before .loop in let text = s .text .now in
-    (met-sum text (at .at) (at .count) (at .cells) (at .inv .0) (c .before .before .before .before .before .before .before .before .loop-test .taken) _ _ _ (sym (c .before .before .sum .given .1) ∙ c .before .before .before .before .before .before .parse .ensures .0) (c .before .before .before .before .before .before .parse .ensures .1) (c .if1 .taken), λ e. absurd (omega arith))
+returns-2 c = (said-by (met-sum (met (c .before .before)) (c .if1 .taken)) (omega arith) (omega arith) (omega arith), λ e. absurd (omega arith))
 
 slice-read-n : tie.Need-slice-read-n Inv-loop μ-loop
 slice-read-n c = search needs
@@ -96,8 +112,7 @@ same-length-6 : tie.Need-same-length-6 Inv-loop μ-loop
 same-length-6 c = search needs
 
 returns-3 : tie.Need-returns-3 Inv-loop μ-loop
-returns-3 c = let s = c .before .before .before .before .before .before .before .before .before .before .before .before .before .before .before .before .before .before .before .before .args in let at = c .before .before .before .before .before .before .before .before .before .before .before .before .before .before .before .loop in let text = s .text .now in
-    (met-long-end text (at .at) (at .count) (at .cells) (at .inv .0) (c .before .before .before .before .before .before .before .before .before .before .before .before .before .before .loop-test .taken) _ _ _ (sym (c .before .before .before .before .before .before .before .before .sum .given .1) ∙ c .before .before .before .before .before .before .before .before .before .before .before .before .parse .ensures .0) (c .before .before .before .before .before .before .before .before .before .before .before .before .parse .ensures .1) (c .before .before .before .before .before .before .if1 .left) (c .before .if2 .taken) (c .if3 .taken), λ e. absurd (omega arith))
+returns-3 c = let first = c .before .before .before .before .before .before in (said-by (met-long-end (met (first .before .before)) (first .if1 .left) (c .before .if2 .taken) (c .if3 .taken)) (omega arith) (omega arith) (omega arith), λ e. absurd (omega arith))
 
 cast-t29 : tie.Need-cast-t29 Inv-loop μ-loop
 cast-t29 c = search needs
@@ -109,8 +124,7 @@ same-length-8 : tie.Need-same-length-8 Inv-loop μ-loop
 same-length-8 c = search needs
 
 returns-4 : tie.Need-returns-4 Inv-loop μ-loop
-returns-4 c = let s = c .before .before .before .before .before .before .before .before .before .before .before .before .before .before .before .before .before .before .before .before .before .args in let at = c .before .before .before .before .before .before .before .before .before .before .before .before .before .before .before .before .loop in let text = s .text .now in
-    (met-far-end text (at .at) (at .count) (at .cells) (at .inv .0) (c .before .before .before .before .before .before .before .before .before .before .before .before .before .before .before .loop-test .taken) _ _ _ (sym (c .before .before .before .before .before .before .before .before .before .sum .given .1) ∙ c .before .before .before .before .before .before .before .before .before .before .before .before .before .parse .ensures .0) (c .before .before .before .before .before .before .before .before .before .before .before .before .before .parse .ensures .1) (c .before .before .before .before .before .before .before .if1 .left) (c .before .before .if2 .taken) (c .before .if3 .left) (c .if4 .taken), λ e. absurd (omega arith))
+returns-4 c = let first = c .before .before .before .before .before .before .before in (said-by (met-far-end (met (first .before .before)) (first .if1 .left) (c .before .before .if2 .taken) (c .before .if3 .left) (c .if4 .taken)) (omega arith) (omega arith) (omega arith), λ e. absurd (omega arith))
 
 cast-t31 : tie.Need-cast-t31 Inv-loop μ-loop
 cast-t31 c = search needs
@@ -122,8 +136,7 @@ same-length-10 : tie.Need-same-length-10 Inv-loop μ-loop
 same-length-10 c = search needs
 
 returns-5 : tie.Need-returns-5 Inv-loop μ-loop
-returns-5 c = let s = c .before .before .before .before .before .before .before .before .before .before .before .before .before .before .before .before .before .before .before .before .before .before .args in let at = c .before .before .before .before .before .before .before .before .before .before .before .before .before .before .before .before .before .loop in let text = s .text .now in
-    (met-more text (at .at) (at .count) (at .cells) (at .inv .0) (c .before .before .before .before .before .before .before .before .before .before .before .before .before .before .before .before .loop-test .taken) _ _ _ (sym (c .before .before .before .before .before .before .before .before .before .before .sum .given .1) ∙ c .before .before .before .before .before .before .before .before .before .before .before .before .before .before .parse .ensures .0) (c .before .before .before .before .before .before .before .before .before .before .before .before .before .before .parse .ensures .1) (c .before .before .before .before .before .before .before .before .if1 .left) (c .before .before .before .if2 .taken) (c .before .before .if3 .left) (c .before .if4 .left) (c .if5 .taken), λ e. absurd (omega arith))
+returns-5 c = let first = c .before .before .before .before .before .before .before .before in (said-by (met-more (met (first .before .before)) (first .if1 .left) (c .before .before .before .if2 .taken) (c .before .before .if3 .left) (c .before .if4 .left) (c .if5 .taken)) (omega arith) (omega arith) (omega arith), λ e. absurd (omega arith))
 
 same-length-11 : tie.Need-same-length-11 Inv-loop μ-loop
 same-length-11 c = search needs
@@ -132,8 +145,8 @@ same-length-12 : tie.Need-same-length-12 Inv-loop μ-loop
 same-length-12 c = search needs
 
 returns-6 : tie.Need-returns-6 Inv-loop μ-loop
-returns-6 c = let s = c .before .before .before .before .before .before .before .before .before .before .before .before .before .before .before .before .before .before .before .before .before .before .args in let at = c .before .before .before .before .before .before .before .before .before .before .before .before .before .before .before .before .before .loop in let text = s .text .now in
-    (met-done text (at .at) (at .count) (at .cells) (at .inv .0) (c .before .before .before .before .before .before .before .before .before .before .before .before .before .before .before .before .loop-test .taken) _ _ _ (sym (c .before .before .before .before .before .before .before .before .before .before .sum .given .1) ∙ c .before .before .before .before .before .before .before .before .before .before .before .before .before .before .parse .ensures .0) (c .before .before .before .before .before .before .before .before .before .before .before .before .before .before .parse .ensures .1) (c .before .before .before .before .before .before .before .before .if1 .left) (c .before .before .before .if2 .taken) (c .before .before .if3 .left) (c .before .if4 .left) (c .if5 .left), λ e. met-all text (at .at) (at .count) (at .cells) (at .inv .0) (c .before .before .before .before .before .before .before .before .before .before .before .before .before .before .before .before .loop-test .taken) _ _ _ (sym (c .before .before .before .before .before .before .before .before .before .before .sum .given .1) ∙ c .before .before .before .before .before .before .before .before .before .before .before .before .before .before .parse .ensures .0) (c .before .before .before .before .before .before .before .before .before .before .before .before .before .before .parse .ensures .1) (c .before .before .before .before .before .before .before .before .if1 .left) (c .before .before .before .if2 .taken) (c .before .before .if3 .left) (c .before .if4 .left) (c .if5 .left))
+returns-6 c = let first = c .before .before .before .before .before .before .before .before in
+    (said-by (met-done (met (first .before .before)) (first .if1 .left) (c .before .before .before .if2 .taken) (c .before .before .if3 .left) (c .before .if4 .left) (c .if5 .left)) (omega arith) (omega arith) (omega arith), λ e. met-all (met (first .before .before)) (first .if1 .left) (c .before .before .before .if2 .taken) (c .before .before .if3 .left) (c .before .if4 .left) (c .if5 .left))
 
 cast-t32 : tie.Need-cast-t32 Inv-loop μ-loop
 cast-t32 c = search needs
@@ -145,8 +158,7 @@ same-length-14 : tie.Need-same-length-14 Inv-loop μ-loop
 same-length-14 c = search needs
 
 returns-7 : tie.Need-returns-7 Inv-loop μ-loop
-returns-7 c = let s = c .before .before .before .before .before .before .before .before .before .before .before .before .before .before .before .before .before .before .before .before .args in let at = c .before .before .before .before .before .before .before .before .before .before .before .before .before .before .before .loop in let text = s .text .now in
-    (met-type text (at .at) (at .count) (at .cells) (at .inv .0) (c .before .before .before .before .before .before .before .before .before .before .before .before .before .before .loop-test .taken) _ _ _ (sym (c .before .before .before .before .before .before .before .before .sum .given .1) ∙ c .before .before .before .before .before .before .before .before .before .before .before .before .parse .ensures .0) (c .before .before .before .before .before .before .before .before .before .before .before .before .parse .ensures .1) (c .before .before .before .before .before .before .if1 .left) (c .before .if2 .left) (c .if6 .taken), λ e. absurd (omega arith))
+returns-7 c = let first = c .before .before .before .before .before .before in (said-by (met-type (met (first .before .before)) (first .if1 .left) (c .before .if2 .left) (λ e. omega arith)) (omega arith) (omega arith) (omega arith), λ e. absurd (omega arith))
 
 add-if7 : tie.Need-add-if7 Inv-loop μ-loop
 add-if7 c = omega (arith, c .before .before .before .before .before .slice-known4 .given 0, c .before .before .before .before .slice-known5 .given 1, c .before .before .before .slice-known6 .given 2)
@@ -161,12 +173,14 @@ same-length-16 : tie.Need-same-length-16 Inv-loop μ-loop
 same-length-16 c = search needs
 
 returns-8 : tie.Need-returns-8 Inv-loop μ-loop
-returns-8 c = let s = c .before .before .before .before .before .before .before .before .before .before .before .before .before .before .before .before .before .before .before .before .before .args in let at = c .before .before .before .before .before .before .before .before .before .before .before .before .before .before .before .before .loop in let text = s .text .now in
-    (met-past text (at .at) (at .count) (at .cells) (at .inv .0) (c .before .before .before .before .before .before .before .before .before .before .before .before .before .before .before .loop-test .taken) _ _ _ (sym (c .before .before .before .before .before .before .before .before .before .sum .given .1) ∙ c .before .before .before .before .before .before .before .before .before .before .before .before .before .parse .ensures .0) (c .before .before .before .before .before .before .before .before .before .before .before .before .before .parse .ensures .1) (c .before .before .before .before .before .before .before .if1 .left) (c .before .before .if2 .left) (c .before .if6 .left) (c .if7 .taken), λ e. absurd (omega arith))
+returns-8 c = let first = c .before .before .before .before .before .before .before in (said-by (met-past (met (first .before .before)) (first .if1 .left) (c .before .before .if2 .left) (omega arith) (c .if7 .taken)) (omega arith) (omega arith) (omega arith), λ e. absurd (omega arith))
 
 store-requires : tie.Need-store-requires Inv-loop μ-loop
-store-requires c κs = let s = c .before .before .before .before .before .before .before .before .before .before .before .before .before .before .before .before .before .before .before .before .before .before .before .args in let at = c .before .before .before .before .before .before .before .before .before .before .before .before .before .before .before .before .before .before .loop in let text = s .text .now in
-    (omega (arith, c .before .before .before .before .before .before .before .before .before .before .before .before .before .before .before .parse .kept .1 .1 .1 .0, c .before .before .before .before .before .before .before .before .slice-known4 .given 0), c .before .before .if7 .left, omega (arith, ap length (c .before .before .before .before .before .before .before .before .before .before .before .before .before .before .before .before .before .before .before .before .before .before .before .pre .3), blank-length))
+store-requires c κs = let fits = c .before .before in let parsed = fits .before .before .before .before .before .before .before .before .before .before .before .before .before in (
+  omega (arith, parsed .parse .kept .1 .1 .1 .0, fits .before .before .before .before .before .before .slice-known4 .given 0),
+  fits .if7 .left,
+  omega (arith, ap length (parsed .before .before .before .before .before .before .before .before .pre .3), unfilled-length),
+)
 
 cast-count : tie.Need-cast-count Inv-loop μ-loop
 cast-count c = search needs
@@ -175,12 +189,14 @@ add-count : tie.Need-add-count Inv-loop μ-loop
 add-count c = search needs
 
 loop-less : tie.Need-loop-less Inv-loop μ-loop
-loop-less c = let s = c .before .before .before .before .before .before .before .before .before .before .before .before .before .before .before .before .before .before .before .before .before .before .before .before .before .before .before .args in let at = c .before .before .before .before .before .before .before .before .before .before .before .before .before .before .before .before .before .before .before .before .before .before .loop in let text = s .text .now in
-    let further = met-next text (at .at) (at .count) (at .cells) (at .inv .0) (c .before .before .before .before .before .before .before .before .before .before .before .before .before .before .before .before .before .before .before .before .before .loop-test .taken) _ _ _ (sym (c .before .before .before .before .before .before .before .before .before .before .before .before .before .before .before .sum .given .1) ∙ c .before .before .before .before .before .before .before .before .before .before .before .before .before .before .before .before .before .before .before .parse .ensures .0) (c .before .before .before .before .before .before .before .before .before .before .before .before .before .before .before .before .before .before .before .parse .ensures .1) in omega (arith, further .1)
+loop-less c = omega (arith, met-next (met (c .before .before .before .before .before .before .before .before .before .before .before .before .before .before .before)) .1)
 
 loop-again : tie.Need-loop-again Inv-loop μ-loop
-loop-again c = let s = c .before .before .before .before .before .before .before .before .before .before .before .before .before .before .before .before .before .before .before .before .before .before .before .before .before .before .before .args in let at = c .before .before .before .before .before .before .before .before .before .before .before .before .before .before .before .before .before .before .before .before .before .before .loop in let text = s .text .now in
-    let kept = c .before .before .before .store .ensures in (rw (kept .1 (c .if8 .taken)) (met-passed text (at .at) (at .count) (at .cells) (at .inv .0) (c .before .before .before .before .before .before .before .before .before .before .before .before .before .before .before .before .before .before .before .before .before .loop-test .taken) _ _ _ (sym (c .before .before .before .before .before .before .before .before .before .before .before .before .before .before .before .sum .given .1) ∙ c .before .before .before .before .before .before .before .before .before .before .before .before .before .before .before .before .before .before .before .parse .ensures .0) (c .before .before .before .before .before .before .before .before .before .before .before .before .before .before .before .before .before .before .before .parse .ensures .1) (c .before .before .before .before .before .before .before .before .before .before .before .before .before .if1 .left) (c .before .before .before .before .before .before .before .before .if2 .left) (c .before .before .before .before .before .before .before .if6 .left) (c .before .before .before .before .before .before .if7 .left) (sym (c .if8 .taken) ∙ kept .0)), c .before .before .before .before .before .before .before .before .before .before .before .before .before .before .before .before .before .before .before .parse .kept .1 .1 .1 .0 ∙ at .inv .1, c .before .before .before .store .kept .1 .1 .1 .0 ∙ at .inv .2)
+loop-again c = let kept = c .before .before .before .store in let fits = c .before .before .before .before .before .before in let first = fits .before .before .before .before .before .before .before in let parsed = first .before .before .before .before .before .before in let loop = parsed .before .before .before .loop in (
+  rw (kept .ensures .1 (c .if8 .taken)) (met-passed (met (first .before .before)) (first .if1 .left) (fits .before .before .if2 .left) (omega arith) (fits .if7 .left) (sym (c .if8 .taken) ∙ kept .ensures .0)),
+  parsed .parse .kept .1 .1 .1 .0 ∙ loop .inv .1,
+  kept .kept .1 .1 .1 .0 ∙ loop .inv .2,
+)
 
 cast-t40 : tie.Need-cast-t40 Inv-loop μ-loop
 cast-t40 c = search needs
@@ -192,8 +208,8 @@ same-length-18 : tie.Need-same-length-18 Inv-loop μ-loop
 same-length-18 c = search needs
 
 returns-9 : tie.Need-returns-9 Inv-loop μ-loop
-returns-9 c = let s = c .before .before .before .before .before .before .before .before .before .before .before .before .before .before .before .before .before .before .before .before .before .before .before .before .before .before .before .args in let at = c .before .before .before .before .before .before .before .before .before .before .before .before .before .before .before .before .before .before .before .before .before .before .loop in let text = s .text .now in
-    (met-twice text (at .at) (at .count) (at .cells) (at .inv .0) (c .before .before .before .before .before .before .before .before .before .before .before .before .before .before .before .before .before .before .before .before .before .loop-test .taken) _ _ _ (sym (c .before .before .before .before .before .before .before .before .before .before .before .before .before .before .before .sum .given .1) ∙ c .before .before .before .before .before .before .before .before .before .before .before .before .before .before .before .before .before .before .before .parse .ensures .0) (c .before .before .before .before .before .before .before .before .before .before .before .before .before .before .before .before .before .before .before .parse .ensures .1) (c .before .before .before .before .before .before .before .before .before .before .before .before .before .if1 .left) (c .before .before .before .before .before .before .before .before .if2 .left) (c .before .before .before .before .before .before .before .if6 .left) (c .before .before .before .before .before .before .if7 .left) (sym (c .if8 .left) ∙ c .before .before .before .store .ensures .0), λ e. absurd (omega arith))
+returns-9 c = let fits = c .before .before .before .before .before .before in let first = fits .before .before .before .before .before .before .before in
+    (said-by (met-twice (met (first .before .before)) (first .if1 .left) (fits .before .before .if2 .left) (omega arith) (fits .if7 .left) (sym (c .if8 .left) ∙ c .before .before .before .store .ensures .0)) (omega arith) (omega arith) (omega arith), λ e. absurd (omega arith))
 
 cast-t41 : tie.Need-cast-t41 Inv-loop μ-loop
 cast-t41 c = search needs
@@ -206,7 +222,7 @@ same-length-20 c = search needs
 
 returns-10 : tie.Need-returns-10 Inv-loop μ-loop
 returns-10 c = let s = c .before .before .before .before .before .before in let at = c .before .loop in
-    (sym (verdict-over (s .args .text .now) (at .at) (at .count) (at .cells) (at .inv .0) (omega arith)), λ e. absurd (omega arith))
+    (said-by (sym (verdict-over (s .args .text .now) (at .at) (at .count) (at .scratch) (at .inv .0) (omega arith))) (omega arith) (omega arith) (omega arith), λ e. absurd (omega arith))
 
 pub collect-spec : {M : Type 1} → statement M
 collect-spec =

@@ -1,4 +1,4 @@
--- `hex::copy_out` meets its contract: the bytes passed are the cells', the others as lent; the measure is what is left of the image.
+-- `hex::copy_out` meets its contract: the bytes passed are the scratch', the others as lent; the measure is what is left of the image.
 -- Assumes nothing.
 use borrow.Author.Needs.{needs}
 use Rattle.hex.specs.Steps.{byteOf}
@@ -10,10 +10,10 @@ use Rattle.hex.proofs.copy_out.Statement.{statement}
 use Rattle.hex.proofs.copy_out.Tie as tie
 
 abbrev Inv-loop : tie.InvT-loop
-Inv-loop cells image₀ i₀ image i = (i ≤ 8192) × Filled (λ k. byteOf (getD cells k 0)) i image image₀
+Inv-loop scratch image₀ i₀ image i = (i ≤ 8192) × Filled (λ k. byteOf (getD scratch k 0)) i image image₀
 
 abbrev μ-loop : tie.MeasureT-loop
-μ-loop cells image₀ i₀ image i = 8192 - i
+μ-loop scratch image₀ i₀ image i = 8192 - i
 
 loop-holds : tie.Need-loop-holds Inv-loop μ-loop
 loop-holds c = (omega arith, filled-none _ _)

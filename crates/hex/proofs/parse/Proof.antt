@@ -1,6 +1,7 @@
 -- `hex::parse` meets its contract: each test that fails denies the record's shape, and all of them passed give it.
 -- Assumes nothing.
-use Rattle.hex.proofs.Place.{sizeAt, not-shaped, no-sum, no-end, is-shaped}
+use Rattle.hex.proofs.Shape.{sizeAt}
+use Rattle.hex.proofs.Place.{not-shaped, no-sum, no-end, is-shaped}
 use Rattle.hex.proofs.Steps.{table-digit}
 use Rattle.hex.specs.Digits.{digit}
 use Rattle.laws.proofs.Lists.{length-tabulate}

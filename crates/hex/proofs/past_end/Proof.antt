@@ -51,12 +51,12 @@ add-result-2 c = search needs
 returns-5 : tie.Need-returns-5
 returns-5 c = let a = c .before .before .before .before .before .before .before .before .args in
     sym (past-here (a .text .now) (a .place) (omega arith)
-    ∙ simp (ne-eqb (getD (a .text .now) (a .place) 0) 10 (c .before .before .before .before .before .if2 .left), eq-eqb (getD (a .text .now) (a .place) 0) 13 (c .before .before .before .if3 .left), eq-eqb (getD (a .text .now) (a .place + 1) 0) 10 (c .if5 .taken)))
+    ∙ simp (ne-eqb (getD (a .text .now) (a .place) 0) 10 (c .before .before .before .before .before .if2 .left), eq-eqb (getD (a .text .now) (a .place) 0) 13 (c .before .before .before .if3 .left), eq-eqb (getD (a .text .now) (a .place + 1) 0) 10 (omega arith)))
 
 returns-6 : tie.Need-returns-6
 returns-6 c = let a = c .before .before .before .before .before .before .before .before .args in
     sym (past-here (a .text .now) (a .place) (omega arith)
-    ∙ simp (ne-eqb (getD (a .text .now) (a .place) 0) 10 (c .before .before .before .before .before .if2 .left), eq-eqb (getD (a .text .now) (a .place) 0) 13 (c .before .before .before .if3 .left), ne-eqb (getD (a .text .now) (a .place + 1) 0) 10 (c .if5 .left)))
+    ∙ simp (ne-eqb (getD (a .text .now) (a .place) 0) 10 (c .before .before .before .before .before .if2 .left), eq-eqb (getD (a .text .now) (a .place) 0) 13 (c .before .before .before .if3 .left), ne-eqb (getD (a .text .now) (a .place + 1) 0) 10 (λ e. omega arith)))
 
 pub past-end-spec : {M : Type 1} → statement M
 past-end-spec =

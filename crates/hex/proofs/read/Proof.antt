@@ -1,12 +1,12 @@
 -- `hex::read` meets its contract: the tests of the two lengths, then the verdict that `collect` gives; the room is written only where that is acceptance.
 -- Assumes nothing.
 use Rattle.hex.proofs.Outcomes.{answers, leaves, keeps, not-done}
-use Rattle.hex.specs.Steps.{blank}
+use Rattle.hex.specs.Steps.{unfilled}
 use Rattle.hex.specs.Reading.{answerOf, leftOf, said}
 use native.Mathlib.Omega.{arith}
 use borrow.Author.Tests.{lt-ltb, le-ltb}
 use lib.ListN.{length}
-use mathlib.Core.Path.{refl, _∙_, ap}
+use mathlib.Core.Path.{_≡_, refl, _∙_, ap}
 use borrow.Author.Needs.{needs}
 use Rattle.hex.proofs.read.Statement.{statement}
 use Rattle.hex.proofs.read.Tie as tie
@@ -31,7 +31,7 @@ slice-aggregate-collect-3 : tie.Need-slice-aggregate-collect-3
 slice-aggregate-collect-3 c = search needs
 
 collect-requires : tie.Need-collect-requires
-unfolding blank Rattle.laws.specs.Lists.tabulate Rattle.hex.specs.Digits.digit
+unfolding unfilled Rattle.laws.specs.Lists.tabulate Rattle.hex.specs.Digits.digit
 collect-requires c κs = (refl, omega arith, refl, refl)
 
 enum-told : tie.Need-enum-told
@@ -48,10 +48,10 @@ same-length c = search needs
 
 returns-3 : tie.Need-returns-3
 returns-3 c = let a = c .before .before .before .before .before .before .before .before .before .before .before .before .before .before .before .before .before .args in let called = c .before .before .before .before .before .before .before .before .before .collect in
-    let told = c .before .before .before .before .before .enum-told .given .1 in (
+    let told = c .before .before .before .before .before .enum-told .given .1 in let accepts : said (called .result) .number ≡ 0 = omega (arith, ap (λ x. said x .number) told) in (
       called .ensures .0 ∙ answers (a .text .now) (a .image .now) (c .before .before .before .before .before .before .before .before .before .before .before .before .before .before .if1 .left) (c .before .before .before .before .before .before .before .before .before .before .before .before .before .if2 .left),
       c .before .before .copy-out .ensures
-          ∙ leaves (a .text .now) (a .image .now) (c .before .before .before .before .before .before .before .before .before .before .before .before .before .before .if1 .left) (c .before .before .before .before .before .before .before .before .before .before .before .before .before .if2 .left) (called .result) (called .ensures .0) (ap (λ x. said x .number) told) _ (called .ensures .1 (ap (λ x. said x .number) told)),
+          ∙ leaves (a .text .now) (a .image .now) (c .before .before .before .before .before .before .before .before .before .before .before .before .before .before .if1 .left) (c .before .before .before .before .before .before .before .before .before .before .before .before .before .if2 .left) (called .result) (called .ensures .0) accepts _ (called .ensures .1 accepts),
     )
 
 returns-4 : tie.Need-returns-4

@@ -1,4 +1,4 @@
--- `image::fill` meets its contract: the rows of the cells passed are the image's, and in a cell the lines passed too; the measures are what is left of either.
+-- `image::fill` meets its contract: the rows of the cells passed are the image's, and in a cell the rows passed too; the measures are what is left of either.
 -- Assumes nothing.
 use Rattle.laws.proofs.Lists.{filled-more, is-tabulate}
 use borrow.Author.Needs.{needs}
@@ -17,10 +17,10 @@ row-more : (f : ℕ → ℕ) (i : ℕ) (l : List ℕ) (v : ℕ) → i < length l
 row-more f i l v h e g = filled-more f i l l v h e (record { size = refl; done = g; left = λ k m. refl }) .done
 
 abbrev Inv-loop2 : tie.InvT-loop2
-Inv-loop2 image font₀ cell line₀ font line = (line ≤ 18) × (length font ≡ 1116) × ((k : ℕ) → k < 18 * cell + line → getD font k 0 ≡ rowIn image k)
+Inv-loop2 image font₀ cell row₀ font row = (row ≤ 18) × (length font ≡ 1116) × ((k : ℕ) → k < 18 * cell + row → getD font k 0 ≡ rowIn image k)
 
 abbrev μ-loop2 : tie.MeasureT-loop2
-μ-loop2 image font₀ cell line₀ font line = 18 - line
+μ-loop2 image font₀ cell row₀ font row = 18 - row
 
 abbrev Inv-loop : tie.InvT-loop
 Inv-loop image font₀ cell₀ font cell = (cell ≤ 62) × (length font ≡ 1116) × ((k : ℕ) → k < 18 * cell → getD font k 0 ≡ rowIn image k)
@@ -34,8 +34,8 @@ loop-holds c = (omega arith, omega arith, λ k h. absurd (omega arith))
 loop2-holds : tie.Need-loop2-holds Inv-loop2 μ-loop2 Inv-loop μ-loop
 loop2-holds c = let l = c .before .loop in (omega arith, l .inv .1, λ k h. l .inv .2 k (omega arith))
 
-row-requires : tie.Need-row-requires Inv-loop2 μ-loop2 Inv-loop μ-loop
-row-requires c κs = search needs
+row-at-requires : tie.Need-row-at-requires Inv-loop2 μ-loop2 Inv-loop μ-loop
+row-at-requires c κs = search needs
 
 mul-font : tie.Need-mul-font Inv-loop2 μ-loop2 Inv-loop μ-loop
 mul-font c = search needs
@@ -49,8 +49,8 @@ mul-font-2 c = search needs
 slice-write-font : tie.Need-slice-write-font Inv-loop2 μ-loop2 Inv-loop μ-loop
 slice-write-font c = search needs
 
-add-line : tie.Need-add-line Inv-loop2 μ-loop2 Inv-loop μ-loop
-add-line c = search needs
+add-row : tie.Need-add-row Inv-loop2 μ-loop2 Inv-loop μ-loop
+add-row c = search needs
 
 loop2-less : tie.Need-loop2-less Inv-loop2 μ-loop2 Inv-loop μ-loop
 loop2-less c = search needs
@@ -58,8 +58,8 @@ loop2-less c = search needs
 loop2-again : tie.Need-loop2-again Inv-loop2 μ-loop2 Inv-loop μ-loop
 loop2-again c = let at = c .before .before .loop2 in let cell = c .before .before .before .before .loop .cell in (
   omega arith,
-  length-set (at .font) (18 * cell + at .line) _ ∙ at .inv .1,
-  λ k h. row-more _ (18 * cell + at .line) (at .font) _ (omega arith) (c .row .ensures) (at .inv .2) k (omega arith),
+  length-set (at .font) (18 * cell + at .row) _ ∙ at .inv .1,
+  λ k h. row-more _ (18 * cell + at .row) (at .font) _ (omega arith) (c .row-at .ensures) (at .inv .2) k (omega arith),
 )
 
 add-cell : tie.Need-add-cell Inv-loop2 μ-loop2 Inv-loop μ-loop
@@ -87,12 +87,12 @@ fill-spec =
     μ-loop
     loop-holds
     loop2-holds
-    row-requires
+    row-at-requires
     mul-font
     add-font
     mul-font-2
     slice-write-font
-    add-line
+    add-row
     loop2-less
     loop2-again
     add-cell

@@ -1,9 +1,10 @@
 -- `writer::half_of`: each return by the test that led to it.
 -- Assumes nothing.
+use Prim.Native.Nat.{_*_}
 use native.Mathlib.Omega.{arith}
 use borrow.Author.Needs.{needs}
 use borrow.Author.Tests.{lt-ltb, le-ltb}
-use Rattle.writer.specs.Steps.{halfOf}
+use Rattle.image.specs.Image.{halfAt}
 use Rattle.writer.proofs.half_of.Statement.{statement}
 use Rattle.writer.proofs.half_of.Tie as tie
 
@@ -11,8 +12,8 @@ cast-result : tie.Need-cast-result
 cast-result c = search needs
 
 returns : tie.Need-returns
-unfolding halfOf
-returns c = simp (lt-ltb (c .before .args .n) 256 (omega arith)) (omega arith)
+unfolding halfAt
+returns c = simp (lt-ltb (16 * c .before .args .n) 4096 (omega arith)) (omega arith)
 
 cast-result-2 : tie.Need-cast-result-2
 cast-result-2 c = search needs
@@ -21,8 +22,8 @@ add-result : tie.Need-add-result
 add-result c = search needs
 
 returns-2 : tie.Need-returns-2
-unfolding halfOf
-returns-2 c = simp (le-ltb (c .before .args .n) 256 (omega arith)) (omega arith)
+unfolding halfAt
+returns-2 c = simp (le-ltb (16 * c .before .args .n) 4096 (omega arith)) (omega arith)
 
 pub half-of-spec : {M : Type 1} → statement M
 half-of-spec = tie.close (tie.spec cast-result returns cast-result-2 add-result returns-2)

@@ -11,7 +11,7 @@ use lib.Seq.{sets}
 use Rattle.image.specs.Image.{dueAt}
 use Rattle.laws.specs.Lists.{tabulate}
 use Rattle.image.proofs.Turning.{font-length, font-row}
-use Rattle.hex.specs.Lines.{total}
+use Rattle.laws.specs.Sums.{sumAll}
 use Rattle.writer.specs.Text.{bytesText}
 use Rattle.writer.specs.Steps.{rowsIn}
 use Rattle.writer.proofs.Spelling.{Spelled, spelled-none, spelled-more}
@@ -143,7 +143,7 @@ returns c =
     let f : ℕ → ℕ = λ k. dueAt (s .args .font .now) (16 * s .args .n + k) in
     let all = ap (λ m. tabulate m f) e ∙ sym due in
     let done = l .inv .3 (s .args .text .now) (c .before .before .before .loop .inv .3) in
-    (done .summed ∙ ap (λ bytes. total bytes % 256) all, done .text ∙ ap (λ bytes. sets (s .args .text .now) (s .args .at) (bytesText bytes)) all)
+    (done .summed ∙ ap (λ bytes. sumAll bytes % 256) all, done .text ∙ ap (λ bytes. sets (s .args .text .now) (s .args .at) (bytesText bytes)) all)
 
 pub put-data-spec : {M : Type 1} → statement M
 put-data-spec =

@@ -1,10 +1,12 @@
 -- `writer::write`: each return by the tests that led to it.
 -- Assumes nothing.
-use mathlib.Core.Path.{sym, _∙_}
+use mathlib.Core.Path.{_≡_, sym, _∙_}
 use native.Mathlib.Omega.{arith}
 use borrow.Author.Needs.{needs}
 use borrow.Author.Tests.{not-true, not-false, lt-ltb, le-ltb}
 use lib.ListN.{length}
+use Rattle.laws.specs.Said.{refused}
+use Rattle.laws.proofs.Said.{said-by}
 use Rattle.image.specs.Image.{imageOf}
 use Rattle.writer.specs.Writing.{answerOf, leftOf}
 use Rattle.writer.proofs.Spelling.{text-stored}
@@ -16,7 +18,11 @@ is-font-requires c κs = search needs
 
 returns : tie.Need-returns
 unfolding answerOf leftOf
-returns c = let e = sym (c .before .is-font .ensures) ∙ not-true _ (c .if1 .taken) in (simp e, simp e)
+returns c =
+    let s = c .before .before .before .before in
+    let e = sym (c .before .is-font .ensures) ∙ not-true _ (c .if1 .taken) in
+    let told : refused 4 0 ≡ answerOf (s .args .font .now) (length (s .args .text .now)) = simp e in
+    (said-by told (omega arith) (omega arith) (omega arith), simp e)
 
 returns-2 : tie.Need-returns-2
 unfolding answerOf leftOf

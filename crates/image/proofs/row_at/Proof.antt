@@ -1,4 +1,4 @@
--- `image::row` meets its contract: the sum is the definition's at the address of the cell's line; a byte read is below 256, so it fits.
+-- `image::row_at` meets its contract: the sum is the definition's at the address of the cell's row; a byte read is below 256, so it fits.
 -- Assumes nothing.
 use Prim.Native.Nat.{_+_, _*_, _%_}
 use lib.ListN.{getD}
@@ -7,8 +7,8 @@ use Rattle.image.specs.Image.{rowIn}
 use mathlib.Core.Path.{sym, ap}
 use native.Mathlib.Omega.{arith}
 use borrow.Author.Needs.{needs}
-use Rattle.image.proofs.row.Statement.{statement}
-use Rattle.image.proofs.row.Tie as tie
+use Rattle.image.proofs.row_at.Statement.{statement}
+use Rattle.image.proofs.row_at.Tie as tie
 
 mul-low : tie.Need-mul-low
 mul-low c = search needs
@@ -20,7 +20,7 @@ shared-slice-read-result : tie.Need-shared-slice-read-result
 shared-slice-read-result c = search needs
 
 cast-result : tie.Need-cast-result
-cast-result c = let a = c .before .args in omega (arith, c .shared-slice-known .given (32 * a .cell + a .line))
+cast-result c = let a = c .before .args in omega (arith, c .shared-slice-known .given (32 * a .cell + a .row))
 
 add-result : tie.Need-add-result
 add-result c = search needs
@@ -35,15 +35,15 @@ mul-result : tie.Need-mul-result
 mul-result c = search needs
 
 add-result-2 : tie.Need-add-result-2
-add-result-2 c = let a = c .before .before .args in omega (arith, c .before .shared-slice-known .given (32 * a .cell + a .line))
+add-result-2 c = let a = c .before .before .args in omega (arith, c .before .shared-slice-known .given (32 * a .cell + a .row))
 
 returns : tie.Need-returns
 unfolding rowIn
 returns c = let a = c .before .before .args in
-    ap (λ n. getD (a .image .now) n 0 + 256 * (getD (a .image .now) (4096 + n) 0 % 16)) (sym (row-low (a .cell) (a .line) (omega arith)))
+    ap (λ n. getD (a .image .now) n 0 + 256 * (getD (a .image .now) (4096 + n) 0 % 16)) (sym (row-low (a .cell) (a .row) (omega arith)))
 
-pub row-spec : {M : Type 1} → statement M
-row-spec =
+pub row-at-spec : {M : Type 1} → statement M
+row-at-spec =
     tie.close
     (tie.spec
     mul-low
