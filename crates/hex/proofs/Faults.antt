@@ -9,7 +9,7 @@ use lib.Dec.{eqb}
 use lib.ListN.{length}
 use borrow.Author.Tests.{lt-ltb, le-ltb, eq-eqb, ne-eqb, eqb-true}
 use Rattle.laws.specs.Lists.{firstOf}
-use Rattle.laws.proofs.Lists.{both-parts}
+use Rattle.laws.proofs.Both.{both-parts}
 use Rattle.hex.specs.Records.{lengthOf, addressOf, typeOf, sumOf, isEnd, freshIn, faultOf}
 
 pub is-end : (r : List ℕ) → typeOf r ≡ 1 → lengthOf r ≡ 0 → addressOf r ≡ 0 → isEnd r ≡ true

@@ -14,7 +14,8 @@ use borrow.Author.Tests.{lt-ltb, eqb-true}
 use Rattle.laws.specs.Pick.{pick}
 use Rattle.laws.specs.Lists.{tabulate}
 use Rattle.laws.specs.Placing.{spanHas, patched}
-use Rattle.laws.proofs.Lists.{both-parts, getD-tabulate, length-tabulate, tabulate-same}
+use Rattle.laws.proofs.Both.{both-parts}
+use Rattle.laws.proofs.Lists.{getD-tabulate, length-tabulate, tabulate-same}
 use Rattle.laws.proofs.Patched.{span-has}
 use Rattle.hex.specs.Digits.{digit, byteAt}
 use Rattle.hex.specs.Records.{allDigits, isShaped, spelledBy, recordOf, lengthOf, addressOf, gives, dataAt, byteIn, isGiven}

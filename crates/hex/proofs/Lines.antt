@@ -10,7 +10,7 @@ use lib.Dec.{eqb}
 use lib.ListN.{length, getD, take, drop}
 use borrow.Author.Tests.{ne-eqb}
 use Rattle.laws.specs.Pick.{pick, both}
-use Rattle.laws.proofs.Lists.{both-parts}
+use Rattle.laws.proofs.Both.{both-parts}
 use Rattle.hex.specs.Lines.{Plain, lines, onto, atEnd, bodyOf}
 use Rattle.hex.specs.Steps.{endLength}
 

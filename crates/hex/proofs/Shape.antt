@@ -12,7 +12,8 @@ use lib.ListN.{length, getD, take, drop, length-drop}
 use lib.Seq.{getD-take, getD-drop, drop-drop, length-take-le}
 use borrow.Author.Tests.{lt-ltb, ltb-true, eq-eqb, eqb-true}
 use Rattle.laws.specs.Lists.{tabulate}
-use Rattle.laws.proofs.Lists.{both-parts, tabulate-same}
+use Rattle.laws.proofs.Both.{both-parts}
+use Rattle.laws.proofs.Lists.{tabulate-same}
 use Rattle.hex.specs.Digits.{digit, byteAt}
 use Rattle.hex.specs.Lines.{Plain, atEnd, bodyOf}
 use Rattle.hex.specs.Records.{allDigits, isShaped, spelledBy}

@@ -16,7 +16,8 @@ use Rattle.laws.specs.Said.{Said, accepted, refused}
 use Rattle.laws.specs.Within.{within}
 use Rattle.font.specs.Font.{isFont, rowOf}
 use Rattle.image.specs.Image.{imageOf, fontOf, halfAt, dueAt, rowIn, lowAt, cellAt, rowAt, hasRow, leastAt, lacksAt, firstLack, answerOf}
-use Rattle.laws.proofs.Lists.{length-tabulate, getD-tabulate, is-tabulate, first-none, first-before, both-parts}
+use Rattle.laws.proofs.Both.{both-parts}
+use Rattle.laws.proofs.Lists.{length-tabulate, getD-tabulate, is-tabulate, first-none, first-before}
 
 within-at : (most : ℕ) (l : List ℕ) → within most l ≡ true → (k : ℕ) → getD l k 0 ≤ most
 unfolding within

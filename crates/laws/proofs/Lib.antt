@@ -1,3 +1,4 @@
+pub mod Both
 pub mod Determined
 pub mod Holders
 pub mod Lists

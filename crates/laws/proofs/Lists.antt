@@ -11,13 +11,8 @@ use native.Mathlib.Numerals.{add-one}
 use native.Mathlib.Omega.{arith}
 use lib.ListN.{length, getD, set, take, drop, replicate, length-append, length-drop, length-set, List·getD-append}
 use lib.Seq.{ext-getD, getD-set-same, getD-set-other, getD-append-add, getD-drop}
-use Rattle.laws.specs.Pick.{pick, both}
+use Rattle.laws.specs.Pick.{pick}
 use Rattle.laws.specs.Lists.{tabulate, firstOf}
-
--- both tests hold where their conjunction does
-pub both-parts : (a b : Bool) → both a b ≡ true → (a ≡ true) × (b ≡ true)
-both-parts true b e = (refl, e)
-both-parts false b e = let z : _≡_ {A = ℕ} 0 1 = cc in absurd (omega arith)
 
 pub length-tabulate : {A : Type 0} (n : ℕ) (f : ℕ → A) → length (tabulate n f) ≡ n
 unfolding tabulate
@@ -113,9 +108,6 @@ module _ (f : ℕ → ℕ) where
       go : (k : ℕ) → k < i + 1 → Dec (k ≡ i) → getD (set l i v) k 0 ≡ f k
       go k m (yes d) = ap (λ n. getD (set l i v) n 0) d ∙ getD-set-same l i v 0 (omega (arith, g .size)) ∙ e ∙ ap f (sym d)
       go k m (no d) = getD-set-other l i k v 0 d ∙ g .done k (omega arith)
-
-  pub filled-whole : (n i : ℕ) (l l₀ : List ℕ) → i ≡ n → length l₀ ≡ n → Filled f i l l₀ → l ≡ tabulate n f
-  filled-whole n i l l₀ e h g = is-tabulate 0 n f l (g .size ∙ h) (λ k m. g .done k (omega arith))
 
   pub filled-all : (n i : ℕ) (l l₀ : List ℕ) → i ≡ n → n ≤ length l₀ → Filled f i l l₀ → l ≡ tabulate n f ++ drop n l₀
   filled-all n i l l₀ at h g =

@@ -11,23 +11,8 @@ use borrow.Author.Tests.{leb-true, le-leb, lt-leb, lt-ltb, le-ltb, ltb-true}
 use lib.Dec.{leb, ltb}
 use Rattle.laws.specs.Pick.{both}
 use Rattle.laws.specs.Placing.{rowHas, spanHas, cellHas}
+use Rattle.laws.proofs.Both.{both-parts, none-left, none-right}
 use Rattle.laws.proofs.Scan.{split}
-
-pub both-left : (s t : Bool) → both s t ≡ true → s ≡ true
-both-left true t e = refl
-both-left false t e = e
-
-pub both-right : (s t : Bool) → both s t ≡ true → t ≡ true
-both-right true t e = e
-both-right false t e = let n : _≡_ {A = ℕ} 0 1 = cc in absurd (omega arith)
-
-none-left : (s t : Bool) → s ≡ false → both s t ≡ false
-none-left true t e = let n : _≡_ {A = ℕ} 0 1 = cc in absurd (omega arith)
-none-left false t e = refl
-
-none-right : (s t : Bool) → t ≡ false → both s t ≡ false
-none-right true t e = e
-none-right false t e = refl
 
 -- what a span has
 pub span-in : (x n k : ℕ) → x ≤ k → k < x + n → spanHas x n k ≡ true
@@ -44,10 +29,11 @@ module _ (width height line k : ℕ) where
   pub cell-has : (x y size : ℕ) → cellHas width height x y size line k ≡ true → ((y ≤ line) × (line < y + height * size)) × ((x ≤ k) × (k < x + width * size))
   unfolding cellHas
   cell-has x y size e =
-      let row = both-left (rowHas height y size line) (spanHas x (width * size) k) e in
-      let span = both-right (rowHas height y size line) (spanHas x (width * size) k) e in (
-        (leb-true y line (both-left (leb y line) (ltb line (y + height * size)) row), ltb-true line (y + height * size) (both-right (leb y line) (ltb line (y + height * size)) row)),
-        (leb-true x k (both-left (leb x k) (ltb k (x + width * size)) span), ltb-true k (x + width * size) (both-right (leb x k) (ltb k (x + width * size)) span)),
+      let parts = both-parts (rowHas height y size line) (spanHas x (width * size) k) e in
+      let row = both-parts (leb y line) (ltb line (y + height * size)) (parts .0) in
+      let span = both-parts (leb x k) (ltb k (x + width * size)) (parts .1) in (
+        (leb-true y line (row .0), ltb-true line (y + height * size) (row .1)),
+        (leb-true x k (span .0), ltb-true k (x + width * size) (span .1)),
       )
 
   -- a row that has the line: its cells have the dots of their spans

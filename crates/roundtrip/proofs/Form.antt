@@ -15,7 +15,8 @@ use borrow.Author.Tests.{lt-ltb, le-ltb, le-leb, lt-leb, leb-true}
 use Rattle.laws.specs.Pick.{pick}
 use Rattle.laws.specs.Lists.{tabulate}
 use Rattle.laws.specs.Sums.{sumAll}
-use Rattle.laws.proofs.Lists.{both-parts, length-tabulate, getD-tabulate, is-tabulate, tabulate-same, tabulate-more}
+use Rattle.laws.proofs.Both.{both-parts}
+use Rattle.laws.proofs.Lists.{length-tabulate, getD-tabulate, is-tabulate, tabulate-same, tabulate-more}
 use Rattle.laws.proofs.Sums.{sum-last}
 use Rattle.hex.specs.Digits.{among, digit, byteAt}
 use Rattle.hex.specs.Lines.{lines, onto, LF}

@@ -7,9 +7,9 @@ use mathlib.Core.List.{List, [], _∷_, _++_, map, flatMap, append-assoc, append
 use Prim.Native.Nat.{ℕ, zero, suc, _+_, _*_, _/_, _%_, _<_, _≤_}
 use native.Mathlib.Nat.{le-of-suc-le-suc, not-suc-le-zero}
 use native.Mathlib.Omega.{arith}
-use lib.Dec.{eqb, ltb, eqb→eq}
+use lib.Dec.{eqb, ltb}
 use lib.ListN.{length, getD}
-use borrow.Author.Tests.{lt-ltb, ne-eqb, eq-eqb}
+use borrow.Author.Tests.{lt-ltb, ne-eqb, eq-eqb, eqb-true}
 use Rattle.laws.specs.Pick.{pick}
 use Rattle.laws.proofs.Tests.{upto-at}
 use Rattle.laws.specs.Lists.{tabulate}
@@ -23,7 +23,7 @@ use Rattle.writer.proofs.Spelling.{bytes-length}
 -- a digit's character spells the digit, and is none of a line's end
 digit-back : (v : ℕ) → v < 16 → digit (digitText v) ≡ v
 unfolding digit
-digit-back v h = eqb→eq _ _ (upto-at 16 (λ v. eqb (digit (digitText v)) v) tt v h)
+digit-back v h = eqb-true _ _ (upto-at 16 (λ v. eqb (digit (digitText v)) v) refl v h)
 
 digit-high : (v : ℕ) → 48 ≤ digitText v
 digit-high v = go (ltb v 10)
