@@ -16,7 +16,7 @@ use Rattle.laws.specs.Lists.{tabulate}
 use Rattle.laws.specs.Placing.{spanHas, patched}
 use Rattle.laws.proofs.Both.{both-parts}
 use Rattle.laws.proofs.Lists.{getD-tabulate, length-tabulate, tabulate-same}
-use Rattle.laws.proofs.Patched.{span-has}
+use Rattle.laws.proofs.Placing.{span-has}
 use Rattle.hex.specs.Digits.{digit, byteAt}
 use Rattle.hex.specs.Records.{allDigits, isShaped, spelledBy, recordOf, lengthOf, addressOf, gives, dataAt, byteIn, isGiven}
 use Rattle.hex.specs.Steps.{storedAt}

@@ -1,15 +1,11 @@
 -- Painting dots from x on: one more, some more of one byte, and cut where the line ends.
 -- Assumes nothing.
 use mathlib.Core.Path.{_≡_, sym, ap, _∙_}
-use mathlib.Core.Bool.{true}
 use mathlib.Core.Logic.{⊎-elim}
 use Prim.Native.Nat.{ℕ, _+_, _-_, _<_, _≤_}
 use native.Mathlib.Nat.{add-sub-cancel-left}
 use native.Mathlib.Omega.{arith}
-use borrow.Author.Tests.{leb-true, ltb-true}
-use lib.Dec.{leb, ltb}
-use Rattle.laws.specs.Placing.{spanHas, patched}
-use Rattle.laws.proofs.Lists.{both-parts}
+use Rattle.laws.specs.Placing.{patched}
 use Rattle.laws.proofs.Scan.{split}
 use Rattle.laws.proofs.Placing.{span-in, span-before, span-after}
 
@@ -67,7 +63,3 @@ module _ (x : ℕ) (shows : ℕ → ℕ) where
       (λ (left : k < x). simp (span-before x m k left, span-before x (m + n) k left))
       (split x k)))
       (split (x + m) k)
-
--- what it is for a span to have a place
-pub span-has : (x n k : ℕ) → spanHas x n k ≡ true → (x ≤ k) × (k < x + n)
-span-has x n k e = let parts = both-parts (leb x k) (ltb k (x + n)) e in (leb-true _ _ (parts .0), ltb-true _ _ (parts .1))

@@ -24,17 +24,16 @@ span-before x n k lt = simp (lt-leb x k lt)
 pub span-after : (x n k : ℕ) → x + n ≤ k → spanHas x n k ≡ false
 span-after x n k le = none-right (leb x k) (ltb k (x + n)) (le-ltb k (x + n) le)
 
+pub span-has : (x n k : ℕ) → spanHas x n k ≡ true → (x ≤ k) × (k < x + n)
+span-has x n k e = let parts = both-parts (leb x k) (ltb k (x + n)) e in (leb-true _ _ (parts .0), ltb-true _ _ (parts .1))
+
 module _ (width height line k : ℕ) where
   -- what it is for a cell to have the dot
   pub cell-has : (x y size : ℕ) → cellHas width height x y size line k ≡ true → ((y ≤ line) × (line < y + height * size)) × ((x ≤ k) × (k < x + width * size))
   unfolding cellHas
   cell-has x y size e =
       let parts = both-parts (rowHas height y size line) (spanHas x (width * size) k) e in
-      let row = both-parts (leb y line) (ltb line (y + height * size)) (parts .0) in
-      let span = both-parts (leb x k) (ltb k (x + width * size)) (parts .1) in (
-        (leb-true y line (row .0), ltb-true line (y + height * size) (row .1)),
-        (leb-true x k (span .0), ltb-true k (x + width * size) (span .1)),
-      )
+      (span-has y (height * size) line (parts .0), span-has x (width * size) k (parts .1))
 
   -- a row that has the line: its cells have the dots of their spans
   pub cell-in-row : (x y size : ℕ) → y ≤ line → line < y + height * size → cellHas width height x y size line k ≡ spanHas x (width * size) k

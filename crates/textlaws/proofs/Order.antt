@@ -17,7 +17,7 @@ use Rattle.laws.specs.Pick.{pick}
 use Rattle.laws.specs.Said.{Said, accepted, refused}
 use Rattle.laws.specs.Lists.{tabulate, firstOf}
 use Rattle.laws.proofs.Lists.{first-is, first-none, first-before, first-at, first-most, tabulate-same}
-use Rattle.laws.proofs.Patched.{span-has}
+use Rattle.laws.proofs.Placing.{span-has}
 use Rattle.laws.proofs.Placing.{span-in}
 use Rattle.hex.specs.Lines.{lines, placeOf}
 use Rattle.hex.specs.Records.{records, lengthOf, addressOf, typeOf, sumOf, isEnd, gives, dataAt, byteIn, isGiven, freshIn, countOf, faultOf}
