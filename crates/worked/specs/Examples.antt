@@ -1,5 +1,5 @@
 -- The eleven examples that document 01 marks with a star, as one table under one statement. What is asked is asked of the definitions
--- that the promises cite; an answer is a list of numbers, so that one equation holds for examples of every kind.
+-- that the promises and demand 3 cite; an answer is a list of numbers, so that one equation holds for examples of every kind.
 -- Assumes nothing.
 use Prim.Native.Nat.{ℕ, zero, suc, _+_, _*_}
 use mathlib.Core.Path.{_≡_}
