@@ -12,7 +12,7 @@ const HALF_BYTES: usize = 4096;
 
 const STRIDE: usize = 32;
 
-const FONT_ROWS: usize = 1116;
+const FONT_ROWS: usize = FONT_CELLS * CELL_ROWS;
 
 pub const FONT_CELLS: usize = 62;
 

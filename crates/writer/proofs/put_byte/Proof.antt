@@ -1,9 +1,12 @@
 -- `writer::put_byte`: two stores, one after the other.
 -- Assumes nothing.
+use Prim.Native.Nat.{_/_, _%_}
+use mathlib.Core.Path.{_≡_}
 use native.Mathlib.Numerals.{add-one}
 use native.Mathlib.Omega.{arith}
 use borrow.Author.Needs.{needs}
 use lib.ListN.{length-set}
+use Rattle.writer.specs.Text.{digitText}
 use Rattle.writer.proofs.put_byte.Statement.{statement}
 use Rattle.writer.proofs.put_byte.Tie as tie
 
@@ -26,7 +29,11 @@ same-length : tie.Need-same-length
 same-length c = search needs
 
 returns : tie.Need-returns
-returns c = rw (c .before .digit .ensures, c .digit2 .ensures, add-one)
+returns c =
+    let byte = c .before .before .before .args .byte in
+    let high : c .before .digit .result ≡ digitText (byte / 16) = omega (arith, c .before .digit .ensures) in
+    let low : c .digit2 .result ≡ digitText (byte % 16) = omega (arith, c .digit2 .ensures) in
+    rw (high, low, add-one)
 
 pub put-byte-spec : {M : Type 1} → statement M
 put-byte-spec =
