@@ -2,7 +2,6 @@ pub mod Both
 pub mod Determined
 pub mod Holders
 pub mod Lists
-pub mod Mapped
 pub mod Overlay
 pub mod Patched
 pub mod Placing

@@ -3,13 +3,13 @@
 -- Assumes nothing.
 use mathlib.Core.Path.{_≡_, refl, sym, _∙_, ap}
 use mathlib.Core.Bool.{Bool, true, false}
-use mathlib.Core.List.{List, [], _∷_, _++_}
+use mathlib.Core.List.{List, [], _∷_, _++_, map}
 use Prim.Native.Nat.{ℕ, zero, suc, _+_, _-_, _<_, _≤_}
 use native.Mathlib.Nat.{le-of-suc-le-suc, not-suc-le-zero}
 use native.Mathlib.Decide.{ℕ-discrete, decLt}
 use native.Mathlib.Numerals.{add-one}
 use native.Mathlib.Omega.{arith}
-use lib.ListN.{length, getD, set, take, drop, replicate, length-append, length-drop, length-set, List·getD-append}
+use lib.ListN.{length, getD, set, take, drop, replicate, length-append, length-drop, length-set, List·getD-append, length-map, List·getD-map}
 use lib.Seq.{ext-getD, getD-set-same, getD-set-other, getD-append-add, getD-drop}
 use Rattle.laws.specs.Pick.{pick}
 use Rattle.laws.specs.Lists.{tabulate, firstOf}
@@ -124,6 +124,13 @@ module _ (f : ℕ → ℕ) where
           g .left k (omega arith)
           ∙ sym (ap (λ i. getD (tabulate n f ++ drop n l₀) i 0) e ∙ getD-append-add (tabulate n f) (drop n l₀) (k - n) 0
           ∙ getD-drop n l₀ (k - n) 0 ∙ ap (λ i. getD l₀ i 0) e′)
+
+-- each of a list's numbers, by what it was
+pub filled-map : (f : ℕ → ℕ) → f 0 ≡ 0 → (i : ℕ) (l l₀ : List ℕ) → i ≡ length l₀ → Filled (λ k. f (getD l₀ k 0)) i l l₀ → l ≡ map f l₀
+filled-map f z i l l₀ e g =
+    ext-getD 0 l (map f l₀)
+    (g .size ∙ sym (length-map l₀ f))
+    (λ k h. g .done k (omega (arith, g .size)) ∙ sym (ap (λ (d : ℕ). getD (map f l₀) k d) (sym z) ∙ List·getD-map f l₀ k 0))
 
 -- one element more
 pub tabulate-more : {A : Type 0} (i : ℕ) (f : ℕ → A) → tabulate (i + 1) f ≡ tabulate i f ++ (f i ∷ [])

@@ -1,22 +1,22 @@
 -- `port::keep_words`. The loop's invariant: the words passed are cut to their kept bits, the others are as they were.
 -- Assumes nothing.
 use Prim.Native.Nat.{_+_, _≤_, _-_}
-use mathlib.Core.Path.{_≡_, refl, ap, _∙_}
+use mathlib.Core.Path.{refl, ap}
 use native.Mathlib.Omega.{arith}
-use lib.ListN.{length}
-use Rattle.laws.proofs.Mapped.{mapped, mapped-length, mapped-more, mapped-all}
+use lib.ListN.{length, getD}
+use Rattle.laws.proofs.Lists.{Filled, filled-none, filled-more, filled-map}
 use Rattle.port.specs.Port.{keptWord}
 use Rattle.port.proofs.keep_words.Statement.{statement}
 use Rattle.port.proofs.keep_words.Tie as tie
 
 abbrev Inv-loop : tie.InvT-loop
-Inv-loop words₀ i₀ words i = (i ≤ length words₀) × ((words ≡ mapped keptWord i words₀) × (length words ≡ length words₀))
+Inv-loop words₀ i₀ words i = (i ≤ length words₀) × Filled (λ k. keptWord (getD words₀ k 0)) i words words₀
 
 abbrev μ-loop : tie.MeasureT-loop
 μ-loop words₀ i₀ words i = length words₀ - i
 
 loop-holds : tie.Need-loop-holds Inv-loop μ-loop
-loop-holds c = (omega arith, (refl, refl))
+loop-holds c = (omega arith, filled-none _ _)
 
 mul-words : tie.Need-mul-words Inv-loop μ-loop
 mul-words c = omega arith
@@ -38,18 +38,14 @@ loop-less c = omega arith
 
 loop-again : tie.Need-loop-again Inv-loop μ-loop
 loop-again c =
-    let a = c .before .before .before .args in
     let l = c .before .before .loop in
-    let e = mapped-more keptWord (l .i) (a .words .now) (l .words) (l .inv .1 .0) (omega arith) in
-    (omega arith, (e, ap length e ∙ mapped-length keptWord (l .i + 1) (a .words .now)))
+    (omega (arith, l .inv .1 .size), filled-more _ (l .i) (l .words) _ _ (omega (arith, l .inv .1 .size)) (ap keptWord (l .inv .1 .left (l .i) (omega arith))) (l .inv .1))
 
 same-length : tie.Need-same-length Inv-loop μ-loop
-same-length c = omega arith
+same-length c = c .before .loop .inv .1 .size
 
 returns : tie.Need-returns Inv-loop μ-loop
-returns c =
-    let l = c .before .loop in
-    l .inv .1 .0 ∙ mapped-all keptWord (l .i) (c .before .before .args .words .now) (omega arith)
+returns c = let l = c .before .loop in filled-map keptWord refl (l .i) (l .words) _ (omega (arith, l .inv .1 .size)) (l .inv .1)
 
 pub keep-words-spec : {M : Type 1} → statement M
 keep-words-spec =
