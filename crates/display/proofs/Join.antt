@@ -10,12 +10,12 @@ use Rattle.laws.specs.Pick.{pick}
 use Rattle.laws.specs.Lines.{firstShown, holders}
 use Rattle.laws.proofs.Holders.{last-none, last-first}
 use Rattle.laws.proofs.Placing.{Past, past-none, past-cell, past-right, past-below}
-use Rattle.display.specs.declared.Dots.{Dots}
+use Rattle.units.specs.declared.Dots.{Dots}
 use Rattle.display.specs.declared.View.{View}
 use Rattle.display.specs.declared.Pen.{Pen}
-use Rattle.display.specs.declared.Kind.{Kind}
-use Rattle.display.specs.declared.Kind.the-variants.{Character, Space, Return, End}
-use Rattle.display.specs.Words.{kindOf}
+use Rattle.words.specs.declared.Kind.{Kind}
+use Rattle.words.specs.declared.Kind.the-variants.{Character, Space, Return, End}
+use Rattle.words.specs.Words.{kindOf}
 use Rattle.display.specs.Cells.{kindCell, rightOf, belowRow, rowPen, afterWord, goesOn, cellsFrom}
 use Rattle.display.specs.Picture.{has, cellDot}
 use Rattle.display.specs.Steps.{painted}

@@ -12,14 +12,14 @@ use Rattle.laws.specs.Lines.{overlay, lastShown}
 use Rattle.laws.proofs.Overlay.{overlay-leaves, overlay-same, overlay-twice}
 use Rattle.laws.proofs.Holders.{last-append}
 use Rattle.laws.proofs.Placing.{room-step}
-use Rattle.display.specs.declared.Dots.{Dots}
-use Rattle.display.specs.declared.Lines.{Lines}
+use Rattle.units.specs.declared.Dots.{Dots}
+use Rattle.units.specs.declared.Lines.{Lines}
 use Rattle.display.specs.declared.View.{View}
 use Rattle.display.specs.declared.Pen.{Pen}
 use Rattle.display.specs.declared.Placed.{Placed}
-use Rattle.display.specs.declared.Kind.{Kind}
-use Rattle.display.specs.declared.Kind.the-variants.{Character, Space, Return, End}
-use Rattle.display.specs.Words.{kindOf}
+use Rattle.words.specs.declared.Kind.{Kind}
+use Rattle.words.specs.declared.Kind.the-variants.{Character, Space, Return, End}
+use Rattle.words.specs.Words.{kindOf}
 use Rattle.display.specs.Cells.{placedWord, cellOf, rightOf, belowRow, rowPen, afterWord, goesOn, cellsFrom}
 use Rattle.display.specs.Picture.{has, cellDot}
 use Rattle.display.specs.Steps.{painted, Sound, Room}

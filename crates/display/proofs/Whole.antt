@@ -2,36 +2,20 @@
 -- Assumes nothing.
 use mathlib.Core.Path.{_≡_, ap, _∙_}
 use mathlib.Core.Bool.{Bool, true, false}
-use mathlib.Core.List.{List, [], _∷_, _++_}
-use mathlib.Core.Logic.{⊎-elim}
-use native.Mathlib.Omega.{arith}
-use types.Run.{OneOf}
+use mathlib.Core.List.{List, _++_}
 use Prim.Native.Nat.{ℕ, _≤_}
 use borrow.Author.Tests.{eq-eqb, ne-eqb}
-use denote.Enum.Declared.{tagOf}
 use lib.ListN.{length, take, drop, replicate}
 use lib.Seq.{length-take-le}
 use Rattle.laws.specs.Said.{Said, accepted}
 use Rattle.laws.specs.Lists.{tabulate}
 use Rattle.laws.proofs.Lists.{tabulate-same, tabulate-constant}
-use Rattle.display.specs.declared.Dots.{Dots}
-use Rattle.display.specs.declared.Lines.{Lines}
-use Rattle.display.specs.declared.Settings.{Settings}
-use Rattle.display.specs.declared.Painted.{Painted}
-use Rattle.display.specs.declared.Painted.the-variants.{Done, BadSetting, ReservedRatio, BadWords, BadFont, OffScreen, NoRoom}
+use Rattle.units.specs.declared.Dots.{Dots}
+use Rattle.units.specs.declared.Lines.{Lines}
+use Rattle.judging.specs.declared.Settings.{Settings}
+use Rattle.judging.specs.Judging.{answerOf}
 use Rattle.display.specs.Picture.{litIn, dotAt}
-use Rattle.display.specs.Painting.{leftOf, screenOf, viewOf, dotOf, lineOf, answerOf, leftBy, said}
-use Rattle.display.proofs.Painted.{the-type}
-
--- any other case than Done has another number than 0
-pub not-done : (r : Painted) → OneOf (1 ∷ 2 ∷ 3 ∷ 4 ∷ 5 ∷ 6 ∷ []) (tagOf the-type r) → said r .number ≡ 0 → ⊥
-not-done Done w e = ⊎-elim (λ z. omega arith) (⊎-elim (λ z. omega arith) (⊎-elim (λ z. omega arith) (⊎-elim (λ z. omega arith) (⊎-elim (λ z. omega arith) (λ z. omega arith))))) w
-not-done BadSetting w e = omega arith
-not-done ReservedRatio w e = omega arith
-not-done BadWords w e = omega arith
-not-done BadFont w e = omega arith
-not-done OffScreen w e = omega arith
-not-done NoRoom w e = omega arith
+use Rattle.display.specs.Painting.{firstDot, screenOf, viewOf, dotOf, lineOf, leftBy}
 
 module _ (words font : List ℕ) (s : Settings) (frame : ℕ) (line : Lines) (width : Dots) (out : List ℕ) where
   pub refused-leaves : (answerOf words font s line width (length out) .number ≡ 0 → ⊥) → out ≡ leftBy words font s frame line width out
@@ -46,14 +30,14 @@ module _ (words font : List ℕ) (s : Settings) (frame : ℕ) (line : Lines) (wi
         (ap (λ (t : List ℕ). t ++ drop (width .0) out) e)
 
     pub shown : (lit : Bool) → s .on ≡ true → lit ≡ litIn (s .ratio) (s .frequency) frame
-        → last ≡ tabulate (length (take (width .0) out)) (dotAt font (record { left = leftOf s; line = line; mode = s .mode; lit = lit }) (s .colour) (screenOf words s))
+        → last ≡ tabulate (length (take (width .0) out)) (dotAt font (record { left = firstDot s; line = line; mode = s .mode; lit = lit }) (s .colour) (screenOf words s))
         → last ++ drop (width .0) out ≡ leftBy words font s frame line width out
     unfolding dotOf
     shown lit on blink e =
         leaves
         (e
-        ∙ ap (λ (n : ℕ). tabulate n (dotAt font (record { left = leftOf s; line = line; mode = s .mode; lit = lit }) (s .colour) (screenOf words s))) (length-take-le (width .0) out fits)
-        ∙ ap (λ (b : Bool). tabulate (width .0) (dotAt font (record { left = leftOf s; line = line; mode = s .mode; lit = b }) (s .colour) (screenOf words s))) blink
+        ∙ ap (λ (n : ℕ). tabulate n (dotAt font (record { left = firstDot s; line = line; mode = s .mode; lit = lit }) (s .colour) (screenOf words s))) (length-take-le (width .0) out fits)
+        ∙ ap (λ (b : Bool). tabulate (width .0) (dotAt font (record { left = firstDot s; line = line; mode = s .mode; lit = b }) (s .colour) (screenOf words s))) blink
         ∙ tabulate-same (width .0) (dotAt font (viewOf s frame line) (s .colour) (screenOf words s)) (dotOf words font s frame line) (λ k lt. simp on))
 
     pub dark : s .on ≡ false → last ≡ replicate (length (take (width .0) out)) 0 → last ++ drop (width .0) out ≡ leftBy words font s frame line width out

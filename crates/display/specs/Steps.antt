@@ -6,16 +6,15 @@ use mathlib.Core.List.{List, [], _∷_}
 use mathlib.Core.Bool.{Bool}
 use Rattle.laws.specs.Pick.{pick}
 use Rattle.laws.specs.Lines.{lastShown}
-use Rattle.laws.specs.Placing.{patched}
-use Rattle.font.specs.Font.{rowOf, bitSet}
-use Rattle.display.specs.declared.Lines.{Lines}
+use Rattle.font.specs.Font.{rowOf}
+use Rattle.units.specs.declared.Lines.{Lines}
 use Rattle.display.specs.declared.Pen.{Pen}
 use Rattle.display.specs.declared.View.{View}
-use Rattle.display.specs.declared.Kind.{Kind}
-use Rattle.display.specs.declared.Kind.the-variants.{Character, Space, Return, End}
+use Rattle.words.specs.declared.Kind.{Kind}
+use Rattle.words.specs.declared.Kind.the-variants.{Character, Space, Return, End}
 use Rattle.display.specs.declared.RowEnd.{RowEnd}
 use Rattle.display.specs.declared.RowEnd.the-variants.{Over, Next}
-use Rattle.display.specs.Words.{kindOf}
+use Rattle.words.specs.Words.{kindOf}
 use Rattle.display.specs.Cells.{Cell}
 use Rattle.display.specs.Picture.{has, cellDot, steadyOr}
 
@@ -26,14 +25,6 @@ painted font v cs k old = lastShown (has v k) (cellDot font v k) cs old
 -- the 12 bits that a character shows on the line: none while it is blinked out
 abbrev pub shownBits : List ℕ → View → Lines → ℕ → ℕ → Bool → ℕ
 shownBits font v y size code blink = pick (steadyOr blink (v .lit)) (rowOf font code ((v .line .0 - y .0) / size)) 0
-
--- a column's byte
-abbrev pub bitByte : ℕ → ℕ → ℕ → ℕ → ℕ
-bitByte bits j on off = pick (bitSet bits j) on off
-
--- dot k where n dots from x on show these bits, each bit `size` dots wide
-abbrev pub stretched : ℕ → ℕ → ℕ → ℕ → ℕ → ℕ → ℕ → ℕ → ℕ
-stretched x n size bits on off k old = patched x n (λ d. bitByte bits (d / size) on off) k old
 
 -- where a row ends: one word further
 abbrev pub later : RowEnd → RowEnd

@@ -1,38 +1,20 @@
 // The painter of the on-screen display: one line of dots from display words, font, settings and frame number.
 ghost use mathlib.Core.Path.{_≡_};
 ghost use Prim.Native.Nat.{_+_, _*_, _≤_, _<_};
-ghost use lib.ListN.{length, replicate};
+ghost use lib.ListN.{length};
 ghost use Rattle.laws.specs.Lines.{overlay};
 ghost use Rattle.laws.specs.Lists.{tabulate};
-ghost use Rattle.laws.specs.Placing.{patched};
-ghost use Rattle.font.specs.Font.{fontRows, cellRows, cellColumns};
-ghost use Rattle.display.specs.Words.{kindOf};
+ghost use Rattle.font.specs.Font.{fontRows, cellRows};
+ghost use Rattle.judging.specs.Judging.{answerOf, said, wordCount};
 ghost use Rattle.display.specs.Cells.{placedWord, cellOf, rightOf, belowRow, rowPen, cellsFrom, cells};
 ghost use Rattle.display.specs.Picture.{unlitByte, outsideByte, divisorOf, litIn, dotAt};
-ghost use Rattle.display.specs.Painting.{answerOf, leftBy, said, inRange, wordCount};
-ghost use Rattle.display.specs.Steps.{painted, shownBits, bitByte, stretched, rowEnd, Sound, EndSound, Room};
-
-// Dots are counted in OSD clocks, lines in scan lines; one is never passed for the other.
-pub struct Dots(pub usize);
-
-pub struct Lines(pub usize);
-
-// What a word is.
-pub enum Kind {
-    Character {
-        colour: u8,
-        code: usize,
-        blink: bool,
-    },
-    Space {
-        background: u8,
-    },
-    Return {
-        size: usize,
-        spacing: Lines,
-    },
-    End,
-}
+ghost use Rattle.display.specs.Painting.{leftBy};
+ghost use Rattle.display.specs.Steps.{painted, shownBits, rowEnd, Sound, EndSound, Room};
+use judging::Painted;
+use judging::Settings;
+use units::Dots;
+use units::Lines;
+use words::Kind;
 
 // A word of the decoded screen: where it stands, its row's size, and what it is.
 pub struct Placed {
@@ -69,46 +51,6 @@ pub enum RowEnd {
     },
 }
 
-// What the host sets. Numbers are wide, so that a value out of range is seen and refused.
-#[repr(C)]
-pub struct Settings {
-    pub on: bool,
-    pub mode: u32,
-    pub colour: u32,
-    pub h: u32,
-    pub v: u32,
-    pub ratio: u32,
-    pub frequency: u32,
-}
-
-pub enum Painted {
-    Done,
-    // A setting is outside its range.
-    BadSetting,
-    // Ratio 3.
-    ReservedRatio,
-    // Not 64 words, or one above 1023.
-    BadWords,
-    BadFont,
-    // The line is above 1023 or the width above 1024.
-    OffScreen,
-    // The output is shorter than the width.
-    NoRoom,
-}
-
-const WORDS: usize = 64;
-
-const MOST_WORD: u16 = 1023;
-
-const MOST_LINE: usize = 1023;
-
-const MOST_WIDTH: usize = 1024;
-
-// Dots and lines of a cell at size 1.
-const CELL_COLUMNS: usize = 12;
-
-const CELL_ROWS: usize = 18;
-
 // Paints the first `width` dots of a line to `out`; the bytes after them stay, and all stay where the call is refused.
 pub fn paint(
     words: &[u16],
@@ -121,7 +63,7 @@ pub fn paint(
 ) -> Painted
     ensures { λ r. ⌜ (said r ≡ answerOf (now (words .entry)) (now (font .entry)) settings line width (length (now (out .entry)))) × (now (out .exit) ≡ leftBy (now (words .entry)) (now (font .entry)) settings frame line width (now (out .entry))) ⌝ }
 {
-    let verdict = judged(words, font, settings, line, width, out.len());
+    let verdict = judging::judged(words, font, settings, line, width, out.len());
     if let Painted::Done = verdict {
         let end = width.0;
         let dots = &mut out[..end];
@@ -140,65 +82,6 @@ pub fn paint(
         }
     }
     verdict
-}
-
-// The first number of the table that applies, or Done.
-fn judged(
-    words: &[u16],
-    font: &[u16],
-    settings: Settings,
-    line: Lines,
-    width: Dots,
-    room: usize,
-) -> Painted
-    ensures { λ r. ⌜ said r ≡ answerOf (now (words .entry)) (now (font .entry)) settings line width room ⌝ }
-{
-    if !in_range(settings) {
-        return Painted::BadSetting;
-    }
-    if settings.ratio == 3 {
-        return Painted::ReservedRatio;
-    }
-    if words.len() != WORDS {
-        return Painted::BadWords;
-    }
-    if !font::all_within(words, MOST_WORD) {
-        return Painted::BadWords;
-    }
-    if !font::is_font(font) {
-        return Painted::BadFont;
-    }
-    if MOST_LINE < line.0 {
-        return Painted::OffScreen;
-    }
-    if MOST_WIDTH < width.0 {
-        return Painted::OffScreen;
-    }
-    if room < width.0 {
-        return Painted::NoRoom;
-    }
-    Painted::Done
-}
-
-fn in_range(s: Settings) -> bool
-    ensures { λ r. ⌜ r ≡ inRange s ⌝ }
-{
-    if 3 < s.mode {
-        return false;
-    }
-    if 7 < s.colour {
-        return false;
-    }
-    if 63 < s.h {
-        return false;
-    }
-    if 63 < s.v {
-        return false;
-    }
-    if 3 < s.ratio {
-        return false;
-    }
-    s.frequency <= 3
 }
 
 // The line with the display on: all outside, then the cells over it.
@@ -227,7 +110,7 @@ fn row_step(
     if line < y.0 {
         return;
     }
-    if line < y.0 + CELL_ROWS * size {
+    if line < y.0 + font::CELL_ROWS * size {
         let left = view.left;
         cell_step(
             words,
@@ -292,7 +175,7 @@ fn row_end(words: &[u16], background: u8) -> RowEnd
     let mut back = background;
     let mut i = 0;
     while i < words.len() {
-        let kind = decode(words[i]);
+        let kind = words::decode(words[i]);
         i += 1;
         match kind {
             Kind::End => {
@@ -326,7 +209,7 @@ fn right(pen: Pen, background: u8) -> Pen
 {
     let y = pen.y;
     Pen {
-        x: Dots(pen.x.0 + CELL_COLUMNS * pen.size),
+        x: Dots(pen.x.0 + font::CELL_COLUMNS * pen.size),
         y: y,
         size: pen.size,
         background: background,
@@ -338,14 +221,14 @@ fn below(y: Lines, size: usize, spacing: Lines) -> Lines
     requires { ⌜ (y .0 ≤ 65536) × ((size ≤ 4) × (spacing .0 ≤ 12)) ⌝ }
     ensures { λ r. ⌜ r ≡ belowRow y size spacing ⌝ }
 {
-    Lines(y.0 + CELL_ROWS * size + spacing.0)
+    Lines(y.0 + font::CELL_ROWS * size + spacing.0)
 }
 
 // A word where the pen is.
 fn place(word: u16, pen: Pen) -> Placed
     ensures { λ r. ⌜ (r ≡ placedWord word pen) × Sound (r .kind) ⌝ }
 {
-    let kind = decode(word);
+    let kind = words::decode(word);
     let x = pen.x;
     let y = pen.y;
     Placed {
@@ -353,32 +236,6 @@ fn place(word: u16, pen: Pen) -> Placed
         y: y,
         size: pen.size,
         kind: kind,
-    }
-}
-
-fn decode(word: u16) -> Kind
-    ensures { λ r. ⌜ (r ≡ kindOf word) × Sound r ⌝ }
-{
-    let code = word / 16 % 64;
-    match code {
-        63 => {
-            if word % 2 == 1 {
-                Kind::End
-            } else {
-                Kind::Space {
-                    background: (word / 2 % 8) as u8,
-                }
-            }
-        }
-        62 => Kind::Return {
-            size: (word / 4 % 4 + 1) as usize,
-            spacing: Lines((word % 4 * 4) as usize),
-        },
-        _ => Kind::Character {
-            colour: (word / 2 % 8) as u8,
-            code: code as usize,
-            blink: word % 2 == 1,
-        },
     }
 }
 
@@ -399,11 +256,11 @@ fn draw(cell: Placed, background: u8, font: &[u16], view: View, out: &mut [u8])
         } => {
             let bits = shown_bits(font, view, y, size, code, blink);
             let off = unlit(view.mode, background);
-            stretch(out, x, size, bits, 8 + colour, off);
+            stretch::stretch(out, x, size as u8, bits, 8 + colour, off);
         }
         Kind::Space { background: own } => {
             let off = unlit(view.mode, own);
-            stretch(out, x, size, 0, off, off);
+            stretch::stretch(out, x, size as u8, 0, off, off);
         }
         Kind::Return {
             size: _,
@@ -424,74 +281,8 @@ fn shown_bits(font: &[u16], view: View, y: Lines, size: usize, code: usize, blin
         }
     }
     let line = view.line.0;
-    let at = CELL_ROWS * code + (line - y.0) / size;
+    let at = font::CELL_ROWS * code + (line - y.0) / size;
     font[at]
-}
-
-// A cell's row of 12 bits over the dots from x on, each bit `size` dots wide, cut where the line ends.
-fn stretch(out: &mut [u8], x: Dots, size: usize, bits: u16, on: u8, off: u8)
-    requires { ⌜ ((1 ≤ size) × (size ≤ 4)) × (x .0 ≤ 65536) ⌝ }
-    ensures { λ _. ⌜ now (out .exit) ≡ overlay (stretched (x .0) (cellColumns * size) size bits on off) (now (out .entry)) ⌝ }
-{
-    if x.0 + CELL_COLUMNS * size <= out.len() {
-        stretch_whole(out, x, size, bits, on, off)
-    } else {
-        stretch_cut(out, x, size, bits, on, off)
-    }
-}
-
-// A cell that the line has whole: column by column, with no test of the line's end and no division.
-fn stretch_whole(out: &mut [u8], x: Dots, size: usize, bits: u16, on: u8, off: u8)
-    requires { ⌜ ((1 ≤ size) × (size ≤ 4)) × (x .0 + cellColumns * size ≤ length (now out)) ⌝ }
-    ensures { λ _. ⌜ now (out .exit) ≡ overlay (stretched (x .0) (cellColumns * size) size bits on off) (now (out .entry)) ⌝ }
-{
-    let from = x.0;
-    let mut j = 0;
-    while j < CELL_COLUMNS {
-        column(out, from + j * size, size, bit_byte(bits, j, on, off));
-        j += 1;
-    }
-}
-
-// One to four dots of one byte.
-fn column(out: &mut [u8], from: usize, size: usize, byte: u8)
-    requires { ⌜ ((1 ≤ size) × (size ≤ 4)) × (from + size ≤ length (now out)) ⌝ }
-    ensures { λ _. ⌜ now (out .exit) ≡ overlay (patched from size (λ d. byte)) (now (out .entry)) ⌝ }
-{
-    out[from] = byte;
-    if size == 1 {
-        return;
-    }
-    out[from + 1] = byte;
-    if size == 2 {
-        return;
-    }
-    out[from + 2] = byte;
-    if size == 3 {
-        return;
-    }
-    out[from + 3] = byte;
-}
-
-// A cell that the line has a part of, or nothing: dot by dot.
-fn stretch_cut(out: &mut [u8], x: Dots, size: usize, bits: u16, on: u8, off: u8)
-    requires { ⌜ ((1 ≤ size) × (size ≤ 4)) × ((x .0 ≤ 65536) × (length (now out) < x .0 + cellColumns * size)) ⌝ }
-    ensures { λ _. ⌜ now (out .exit) ≡ overlay (stretched (x .0) (cellColumns * size) size bits on off) (now (out .entry)) ⌝ }
-{
-    let from = x.0;
-    let mut i = 0;
-    while from + i < out.len() {
-        out[from + i] = bit_byte(bits, i / size, on, off);
-        i += 1;
-    }
-}
-
-// Column j of a row of 12 bits, bit 11 leftmost.
-fn bit_byte(bits: u16, j: usize, on: u8, off: u8) -> u8
-    requires { ⌜ j ≤ 11 ⌝ }
-    ensures { λ r. ⌜ r ≡ bitByte bits j on off ⌝ }
-{
-    if (bits >> (11 - j)) % 2 == 1 { on } else { off }
 }
 
 // An unlit dot of a cell, and each dot of a space.

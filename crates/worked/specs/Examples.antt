@@ -9,9 +9,9 @@ use lib.Dec.{eqb}
 use lib.Count.{trailingZeros}
 use Rattle.laws.specs.Pick.{pick}
 use Rattle.dac.specs.Wave.{pair, total, added, level, subPeriod}
-use Rattle.display.specs.declared.Kind.{Kind}
-use Rattle.display.specs.declared.Kind.the-variants.{Character, Space, Return, End}
-use Rattle.display.specs.Words.{kindOf}
+use Rattle.words.specs.declared.Kind.{Kind}
+use Rattle.words.specs.declared.Kind.the-variants.{Character, Space, Return, End}
+use Rattle.words.specs.Words.{kindOf}
 use Rattle.display.specs.Picture.{litIn}
 
 pub data Question : Type 0 where

@@ -6,9 +6,9 @@ use borrow.Author.Needs.{needs}
 use lib.ListN.{length}
 use lib.Seq.{length-take-le}
 use Rattle.laws.specs.Said.{Said}
-use Rattle.display.specs.Painting.{said}
-use Rattle.display.proofs.Judging.{accepted-by}
-use Rattle.display.proofs.Whole.{not-done, refused-leaves, shown, dark}
+use Rattle.judging.specs.Judging.{said}
+use Rattle.judging.proofs.Accepted.{accepted-by, not-done}
+use Rattle.display.proofs.Whole.{refused-leaves, shown, dark}
 use Rattle.display.proofs.paint.Statement.{statement}
 use Rattle.display.proofs.paint.Tie as tie
 

@@ -4,9 +4,9 @@ use Prim.Native.Nat.{ℕ}
 use mathlib.Core.Path.{_≡_, refl, ap, _∙_}
 use borrow.Author.Needs.{needs}
 use Rattle.laws.specs.Said.{Said}
-use Rattle.display.specs.declared.Painted.{Painted}
-use Rattle.display.specs.declared.Painted.the-variants.{Done, BadSetting, ReservedRatio, BadWords, BadFont, OffScreen, NoRoom}
-use Rattle.display.specs.Painting.{said}
+use Rattle.judging.specs.declared.Painted.{Painted}
+use Rattle.judging.specs.declared.Painted.the-variants.{Done, BadSetting, ReservedRatio, BadWords, BadFont, OffScreen, NoRoom}
+use Rattle.judging.specs.Judging.{said}
 use Rattle.dirgeflint.proofs.display_face.painted_answer.Statement.{statement}
 use Rattle.dirgeflint.proofs.display_face.painted_answer.Tie as tie
 

@@ -1,0 +1,2 @@
+pub mod Corollaries
+pub mod Example
