@@ -8,6 +8,7 @@ use Rattle.laws.specs.Pick.{pick}
 use Rattle.laws.specs.Lines.{lastShown}
 use Rattle.font.specs.Font.{rowOf}
 use Rattle.units.specs.declared.Lines.{Lines}
+use Rattle.judging.specs.declared.Settings.{Settings}
 use Rattle.display.specs.declared.Pen.{Pen}
 use Rattle.display.specs.declared.View.{View}
 use Rattle.words.specs.declared.Kind.{Kind}
@@ -54,6 +55,14 @@ Sound End = Unit
 abbrev pub EndSound : ℕ → RowEnd → Type 0
 EndSound n Over = Unit
 EndSound n (Next read size spacing background) = ((1 ≤ read) × (read ≤ n)) × (((1 ≤ size) × (size ≤ 4)) × ((spacing .0 ≤ 12) × (background ≤ 7)))
+
+-- settings that the painter's arithmetic takes
+pub record Usable (s : Settings) : Type 0 where
+  pub colour : s .colour ≤ 7
+  pub h : s .h ≤ 63
+  pub v : s .v ≤ 63
+  pub ratio : s .ratio ≤ 2
+  pub frequency : s .frequency ≤ 3
 
 -- room for n more words at the pen: a word goes at most 48 dots right or 84 lines down
 pub record Room (v : View) (p : Pen) (n : ℕ) : Type 0 where

@@ -6,10 +6,10 @@ ghost use Rattle.laws.specs.Lines.{overlay};
 ghost use Rattle.laws.specs.Lists.{tabulate};
 ghost use Rattle.font.specs.Font.{fontRows, cellRows};
 ghost use Rattle.judging.specs.Judging.{answerOf, said, wordCount};
-ghost use Rattle.display.specs.Cells.{placedWord, cellOf, rightOf, belowRow, rowPen, cellsFrom, cells};
+ghost use Rattle.display.specs.Cells.{placedWord, cellOf, rightOf, belowRow, rowPen, cellsFrom};
 ghost use Rattle.display.specs.Picture.{unlitByte, outsideByte, divisorOf, litIn, dotAt};
-ghost use Rattle.display.specs.Painting.{leftBy};
-ghost use Rattle.display.specs.Steps.{painted, shownBits, rowEnd, Sound, EndSound, Room};
+ghost use Rattle.display.specs.Painting.{viewOf, screenOf, leftBy};
+ghost use Rattle.display.specs.Steps.{painted, shownBits, rowEnd, Usable, Sound, EndSound, Room};
 use judging::Painted;
 use judging::Settings;
 use units::Dots;
@@ -68,15 +68,7 @@ pub fn paint(
         let end = width.0;
         let dots = &mut out[..end];
         if settings.on {
-            let lit = blink_lit(settings.ratio, settings.frequency, frame);
-            let view = View {
-                left: Dots(4 * settings.h as usize),
-                line: line,
-                mode: settings.mode,
-                lit: lit,
-            };
-            let top = Lines(4 * settings.v as usize);
-            paint_line(words, font, view, top, settings.colour as u8, dots);
+            paint_line(words, font, settings, frame, line, dots);
         } else {
             fill::fill(dots, 0);
         }
@@ -85,11 +77,27 @@ pub fn paint(
 }
 
 // The line with the display on: all outside, then the cells over it.
-fn paint_line(words: &[u16], font: &[u16], view: View, top: Lines, start: u8, out: &mut [u8])
-    requires { ⌜ (length (now words) ≡ wordCount) × ((length (now font) ≡ fontRows) × ((view .left .0 ≤ 252) × ((top .0 ≤ 252) × (start ≤ 7)))) ⌝ }
-    ensures { λ _. ⌜ now (out .exit) ≡ tabulate (length (now (out .entry))) (dotAt (now (font .entry)) view start (cells (view .left) top start (now (words .entry)))) ⌝ }
+fn paint_line(
+    words: &[u16],
+    font: &[u16],
+    settings: Settings,
+    frame: u32,
+    line: Lines,
+    out: &mut [u8],
+)
+    requires { ⌜ (length (now words) ≡ wordCount) × ((length (now font) ≡ fontRows) × Usable settings) ⌝ }
+    ensures { λ _. ⌜ now (out .exit) ≡ tabulate (length (now (out .entry))) (dotAt (now (font .entry)) (viewOf settings frame line) (settings .colour) (screenOf (now (words .entry)) settings)) ⌝ }
 {
-    fill::fill(out, outside(view.mode, start));
+    let lit = blink_lit(settings.ratio, settings.frequency, frame);
+    let view = View {
+        left: Dots(4 * settings.h as usize),
+        line: line,
+        mode: settings.mode,
+        lit: lit,
+    };
+    let top = Lines(4 * settings.v as usize);
+    let start = settings.colour as u8;
+    fill::fill(out, outside(settings.mode, start));
     row_step(words, font, view, top, 1, start, out);
 }
 

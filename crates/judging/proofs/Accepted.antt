@@ -1,6 +1,6 @@
 -- The tests of the settings, what the tests of an accepted call show, and that no refusal has number 0.
 -- Assumes nothing.
-use mathlib.Core.Path.{_≡_, refl, ap}
+use mathlib.Core.Path.{_≡_, refl, sym, ap, _∙_}
 use mathlib.Core.Bool.{Bool, true, false, not}
 use mathlib.Core.List.{List, [], _∷_}
 use mathlib.Core.Logic.{⊎-elim}
@@ -62,7 +62,7 @@ peel : (t : Bool) (k : ℕ) (rest : Said) → pick t (refused (suc k) 0) rest �
 peel true k rest e = let z = ap (λ (a : Said). a .number) e in absurd (omega arith)
 peel false k rest e = (refl, e)
 
-pub accepted-by : (words font : List ℕ) (s : Settings) (line : Lines) (width : Dots) (room : ℕ) → answerOf words font s line width room ≡ accepted 0 → Accepted words font s width room
+accepted-by : (words font : List ℕ) (s : Settings) (line : Lines) (width : Dots) (room : ℕ) → answerOf words font s line width room ≡ accepted 0 → Accepted words font s width room
 unfolding answerOf isFont
 accepted-by words font s line width room e =
     let p1 = peel (not (inRange s)) 0 _ e in
@@ -88,6 +88,14 @@ accepted-by words font s line width room e =
       rows = eqb-true (length font) 1116 (both-left (eqb (length font) 1116) _ (not-false (isFont font) (p4 .0)));
       fits = ltb-false room (width .0) (p6 .0);
     }
+
+-- the answer Done
+pub done-is : (r : Painted) (a : Said) → said r ≡ a → r ≡ Done → a ≡ accepted 0
+done-is r a e d = sym e ∙ ap said d
+
+pub accepted-done : (words font : List ℕ) (s : Settings) (line : Lines) (width : Dots) (room : ℕ) (r : Painted) → said r ≡ answerOf words font s line width room → r ≡ Done
+    → Accepted words font s width room
+accepted-done words font s line width room r e d = accepted-by words font s line width room (done-is r _ e d)
 
 -- any other case than Done has another number than 0
 pub not-done : (r : Painted) → OneOf (1 ∷ 2 ∷ 3 ∷ 4 ∷ 5 ∷ 6 ∷ []) (tagOf the-type r) → said r .number ≡ 0 → ⊥
