@@ -1,4 +1,5 @@
 -- What follows from the account, and what the proofs of several functions use.
+pub mod Corollaries
 pub mod Join
 mod Rows
 mod Sound

@@ -1,7 +1,7 @@
--- What a call leaves: an accepted one the line and the bytes after it, a refused one all as it was.
+-- The line with the display on; and what a call leaves: an accepted one the line and the bytes after it, a refused one all as it was.
 -- Assumes nothing.
 use mathlib.Core.Path.{_≡_, ap, _∙_}
-use mathlib.Core.Bool.{true, false}
+use mathlib.Core.Bool.{Bool, true, false}
 use mathlib.Core.List.{List, [], _∷_, _++_}
 use Prim.Native.Nat.{ℕ, _≤_}
 use types.Run.{OneOf}
@@ -10,7 +10,9 @@ use borrow.Author.Tests.{eq-eqb, ne-eqb}
 use lib.ListN.{length, take, drop, replicate}
 use lib.Seq.{length-take-le}
 use Rattle.laws.specs.Said.{Said}
+use Rattle.laws.specs.Lines.{overlay}
 use Rattle.laws.specs.Lists.{tabulate}
+use Rattle.laws.proofs.Overlay.{overlay-filled}
 use Rattle.laws.proofs.Lists.{tabulate-same, tabulate-constant}
 use Rattle.units.specs.declared.Dots.{Dots}
 use Rattle.units.specs.declared.Lines.{Lines}
@@ -20,8 +22,27 @@ use Rattle.judging.specs.declared.Painted.the-variants.{Done}
 use Rattle.judging.specs.Judging.{answerOf, said}
 use Rattle.judging.proofs.Accepted.{done-is, not-done}
 use Rattle.judging.proofs.Painted.{the-type}
-use Rattle.display.specs.Picture.{video, dotAt}
-use Rattle.display.specs.Painting.{screenOf, viewOf, dotOf, lineOf, leftBy}
+use Rattle.display.specs.declared.View.{View}
+use Rattle.display.specs.Cells.{rowPen}
+use Rattle.display.specs.Picture.{video, outsideByte, litIn, dotAt}
+use Rattle.display.specs.Painting.{firstDot, firstLine, screenOf, viewOf, dotOf, lineOf, leftBy}
+use Rattle.display.specs.Steps.{painted}
+use Rattle.display.proofs.Join.{joined}
+
+-- a line of outside bytes, painted over by the cells in turn
+pub on-line : (words font : List ℕ) (s : Settings) (frame : ℕ) (line : Lines) (lit : Bool) (n : ℕ) (mid last : List ℕ) → lit ≡ litIn (s .ratio) (s .frequency) frame
+    → mid ≡ replicate n (outsideByte (s .mode) (s .colour))
+    → last ≡ overlay (painted font (record { left = firstDot s; line = line; mode = s .mode; lit = lit }) (screenOf words s)) mid
+    → last ≡ tabulate n (dotAt font (viewOf s frame line) (s .colour) (screenOf words s))
+unfolding dotAt
+on-line words font s frame line lit n mid last blink filled walked =
+    let view : Bool → View = λ b. record { left = firstDot s; line = line; mode = s .mode; lit = b } in
+    let other = outsideByte (s .mode) (s .colour) in
+    walked
+    ∙ ap (λ (t : List ℕ). overlay (painted font (view lit) (screenOf words s)) t) filled
+    ∙ overlay-filled (painted font (view lit) (screenOf words s)) other n
+    ∙ tabulate-same n _ _ (λ k lt. joined (view lit) (firstDot s) k font words (rowPen (firstDot s) (firstLine s) 1 (s .colour)) other)
+    ∙ ap (λ (b : Bool). tabulate n (dotAt font (view b) (s .colour) (screenOf words s))) blink
 
 module _ (words font : List ℕ) (s : Settings) (frame : ℕ) (line : Lines) (width : Dots) (out : List ℕ) (r : Painted) (e : said r ≡ answerOf words font s line width (length out)) where
   pub refused-leaves : OneOf (1 ∷ 2 ∷ 3 ∷ 4 ∷ 5 ∷ 6 ∷ []) (tagOf the-type r) → out ≡ leftBy words font s frame line width out

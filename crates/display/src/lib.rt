@@ -4,12 +4,12 @@ ghost use Prim.Native.Nat.{_+_, _*_, _≤_, _<_};
 ghost use lib.ListN.{length};
 ghost use Rattle.laws.specs.Lines.{overlay};
 ghost use Rattle.laws.specs.Lists.{tabulate};
-ghost use Rattle.font.specs.Font.{fontRows, cellRows};
+ghost use Rattle.font.specs.Font.{fontCells, fontRows, cellRows};
 ghost use Rattle.judging.specs.Judging.{answerOf, said, wordCount};
 ghost use Rattle.display.specs.Cells.{placedWord, cellOf, rightOf, belowRow, rowPen, cellsFrom};
 ghost use Rattle.display.specs.Picture.{unlitByte, outsideByte, divisorOf, litIn, dotAt};
 ghost use Rattle.display.specs.Painting.{viewOf, screenOf, leftBy};
-ghost use Rattle.display.specs.Steps.{painted, shownBits, rowEnd, Usable, Sound, EndSound, Room};
+ghost use Rattle.display.specs.Steps.{painted, shownBits, rowEnd, mostColour, mostSize, mostSpacing, far, Usable, Sound, EndSound, Room};
 use judging::Painted;
 use judging::Settings;
 use units::Dots;
@@ -17,31 +17,31 @@ use units::Lines;
 use words::Kind;
 
 // A word of the decoded screen: where it stands, its row's size, and what it is.
-pub struct Placed {
-    pub x: Dots,
-    pub y: Lines,
-    pub size: usize,
-    pub kind: Kind,
+struct Placed {
+    x: Dots,
+    y: Lines,
+    size: usize,
+    kind: Kind,
 }
 
 // Where the next word stands, and the background by then.
-pub struct Pen {
-    pub x: Dots,
-    pub y: Lines,
-    pub size: usize,
-    pub background: u8,
+struct Pen {
+    x: Dots,
+    y: Lines,
+    size: usize,
+    background: u8,
 }
 
 // What stays the same over a line: where rows start, the line, the mode, and whether blinking characters are lit.
-pub struct View {
-    pub left: Dots,
-    pub line: Lines,
-    pub mode: u32,
-    pub lit: bool,
+struct View {
+    left: Dots,
+    line: Lines,
+    mode: u32,
+    lit: bool,
 }
 
 // Where a row ends: with the words, or at a return, after so many words.
-pub enum RowEnd {
+enum RowEnd {
     Over,
     Next {
         read: usize,
@@ -177,7 +177,7 @@ fn cell_step(words: &[u16], font: &[u16], view: View, pen: Pen, out: &mut [u8])
 
 // How many words a row takes, with its return, and what follows from them.
 fn row_end(words: &[u16], background: u8) -> RowEnd
-    requires { ⌜ background ≤ 7 ⌝ }
+    requires { ⌜ background ≤ mostColour ⌝ }
     ensures { λ r. ⌜ (r ≡ rowEnd (now (words .entry)) background) × EndSound (length (now (words .entry))) r ⌝ }
 {
     let mut back = background;
@@ -212,7 +212,7 @@ fn row_end(words: &[u16], background: u8) -> RowEnd
 
 // Where the next cell of the row stands, with the background from there on.
 fn right(pen: Pen, background: u8) -> Pen
-    requires { ⌜ (pen .x .0 ≤ 65536) × (pen .size ≤ 4) ⌝ }
+    requires { ⌜ (pen .x .0 ≤ far) × (pen .size ≤ mostSize) ⌝ }
     ensures { λ r. ⌜ r ≡ rightOf pen background ⌝ }
 {
     let y = pen.y;
@@ -226,7 +226,7 @@ fn right(pen: Pen, background: u8) -> Pen
 
 // Where the next row starts.
 fn below(y: Lines, size: usize, spacing: Lines) -> Lines
-    requires { ⌜ (y .0 ≤ 65536) × ((size ≤ 4) × (spacing .0 ≤ 12)) ⌝ }
+    requires { ⌜ (y .0 ≤ far) × ((size ≤ mostSize) × (spacing .0 ≤ mostSpacing)) ⌝ }
     ensures { λ r. ⌜ r ≡ belowRow y size spacing ⌝ }
 {
     Lines(y.0 + font::CELL_ROWS * size + spacing.0)
@@ -249,7 +249,7 @@ fn place(word: u16, pen: Pen) -> Placed
 
 // Paints the cell of a word in the row that the line cuts; `background` is the one before the word.
 fn draw(cell: Placed, background: u8, font: &[u16], view: View, out: &mut [u8])
-    requires { ⌜ (length (now font) ≡ fontRows) × (Sound (cell .kind) × ((background ≤ 7) × (((1 ≤ cell .size) × (cell .size ≤ 4)) × ((cell .x .0 ≤ 65536) × ((cell .y .0 ≤ view .line .0) × (view .line .0 < cell .y .0 + cellRows * cell .size)))))) ⌝ }
+    requires { ⌜ (length (now font) ≡ fontRows) × (Sound (cell .kind) × ((background ≤ mostColour) × (((1 ≤ cell .size) × (cell .size ≤ mostSize)) × ((cell .x .0 ≤ far) × ((cell .y .0 ≤ view .line .0) × (view .line .0 < cell .y .0 + cellRows * cell .size)))))) ⌝ }
     ensures { λ _. ⌜ now (out .exit) ≡ overlay (painted (now (font .entry)) view (cellOf cell background)) (now (out .entry)) ⌝ }
 {
     let kind = cell.kind;
@@ -280,7 +280,7 @@ fn draw(cell: Placed, background: u8, font: &[u16], view: View, out: &mut [u8])
 
 // The bits of a character's row that the line cuts: none where it is blinked out.
 fn shown_bits(font: &[u16], view: View, y: Lines, size: usize, code: usize, blink: bool) -> u16
-    requires { ⌜ (length (now font) ≡ fontRows) × ((code ≤ 61) × ((1 ≤ size) × ((y .0 ≤ view .line .0) × (view .line .0 < y .0 + cellRows * size)))) ⌝ }
+    requires { ⌜ (length (now font) ≡ fontRows) × ((code < fontCells) × ((1 ≤ size) × ((y .0 ≤ view .line .0) × (view .line .0 < y .0 + cellRows * size)))) ⌝ }
     ensures { λ r. ⌜ r ≡ shownBits (now (font .entry)) view y size code blink ⌝ }
 {
     if blink {
@@ -295,7 +295,7 @@ fn shown_bits(font: &[u16], view: View, y: Lines, size: usize, code: usize, blin
 
 // An unlit dot of a cell, and each dot of a space.
 fn unlit(mode: u32, background: u8) -> u8
-    requires { ⌜ background ≤ 7 ⌝ }
+    requires { ⌜ background ≤ mostColour ⌝ }
     ensures { λ r. ⌜ r ≡ unlitByte mode background ⌝ }
 {
     if mode <= 1 { 0 } else { 8 + background }
@@ -303,7 +303,7 @@ fn unlit(mode: u32, background: u8) -> u8
 
 // A dot outside every cell.
 fn outside(mode: u32, start: u8) -> u8
-    requires { ⌜ start ≤ 7 ⌝ }
+    requires { ⌜ start ≤ mostColour ⌝ }
     ensures { λ r. ⌜ r ≡ outsideByte mode start ⌝ }
 {
     if mode <= 2 { 0 } else { 8 + start }

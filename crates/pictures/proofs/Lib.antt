@@ -1,2 +1,1 @@
-pub mod Corollaries
 pub mod Example

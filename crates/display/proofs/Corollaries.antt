@@ -64,16 +64,16 @@ pub line-cut : (words font : List ℕ) (s : Settings) (frame : ℕ) (line : Line
 line-cut words font s frame line less width le = tabulate-cut (less .0) (width .0) (dotOf words font s frame line) le
 
 -- two fonts have the same rows of each character shown
-abbrev pub SameGlyph : List ℕ → List ℕ → Shown → Type 0
-SameGlyph f g (character colour code blink) = (l : ℕ) → l < 18 → rowOf f code l ≡ rowOf g code l
-SameGlyph f g space = Unit
+abbrev pub SameCharacter : List ℕ → List ℕ → Shown → Type 0
+SameCharacter f g (character colour code blink) = (l : ℕ) → l < 18 → rowOf f code l ≡ rowOf g code l
+SameCharacter f g space = Unit
 
 abbrev pub Agree : List ℕ → List ℕ → List Cell → Type 0
 Agree f g [] = Unit
-Agree f g (c ∷ cs) = SameGlyph f g (c .shows) × Agree f g cs
+Agree f g (c ∷ cs) = SameCharacter f g (c .shows) × Agree f g cs
 
 module _ (f g : List ℕ) (v : View) (k : ℕ) where
-  same-shown : (c : Cell) (sh : Shown) → SameGlyph f g sh → has v k c ≡ true → shownDot f v k c sh ≡ shownDot g v k c sh
+  same-shown : (c : Cell) (sh : Shown) → SameCharacter f g sh → has v k c ≡ true → shownDot f v k c sh ≡ shownDot g v k c sh
   unfolding shownDot
   same-shown c (character colour code blink) same in-cell =
       let h = cell-has 12 18 (v .line .0) k (c .left .0) (c .top .0) (c .size) in-cell in
