@@ -1,13 +1,14 @@
 // The painter.
 ghost use mathlib.Core.Path.{_≡_};
 ghost use lib.ListN.{length};
-ghost use Rattle.display.specs.Painting.{answerOf, leftBy, said};
+ghost use Rattle.judging.specs.Judging.{answerOf, said};
+ghost use Rattle.display.specs.Painting.{leftBy};
 ghost use Rattle.answer.specs.Told.{told};
 use answer::Answer;
-use display::Dots;
-use display::Lines;
-use display::Painted;
-use display::Settings;
+use judging::Painted;
+use judging::Settings;
+use units::Dots;
+use units::Lines;
 
 // Paints the first `width` dots of a line, one byte for each: 0 for video, else 8 and the colour. Value 0, or numbers 1 to 6.
 #[no_mangle]

@@ -15,15 +15,15 @@ use Rattle.laws.proofs.Lists.{tabulate-same, getD-tabulate, tabulate-cut}
 use Rattle.laws.proofs.Holders.{first-none}
 use Rattle.laws.proofs.Placing.{cell-has, cell-below, cell-beside, share-below}
 use Rattle.font.specs.Font.{rowOf}
-use Rattle.display.specs.declared.Dots.{Dots}
-use Rattle.display.specs.declared.Lines.{Lines}
+use Rattle.units.specs.declared.Dots.{Dots}
+use Rattle.units.specs.declared.Lines.{Lines}
 use Rattle.display.specs.declared.View.{View}
 use Rattle.display.specs.declared.Pen.{Pen}
-use Rattle.display.specs.declared.Settings.{Settings}
+use Rattle.judging.specs.declared.Settings.{Settings}
 use Rattle.display.specs.declared.Kind.{Kind}
 use Rattle.display.specs.declared.Kind.the-variants.{Character, Space, Return, End}
 use Rattle.display.specs.Words.{kindOf}
-use Rattle.display.specs.Cells.{Shown, glyph, blank, Cell, kindCell, rightOf, belowRow, rowPen, afterWord, goesOn, cellsFrom}
+use Rattle.display.specs.Cells.{Shown, character, space, Cell, kindCell, rightOf, belowRow, rowPen, afterWord, goesOn, cellsFrom}
 use Rattle.display.specs.Picture.{outsideByte, has, shownDot, cellDot, dotAt}
 use Rattle.display.specs.Painting.{screenOf, viewOf, dotOf, lineOf}
 
@@ -64,21 +64,21 @@ pub line-cut : (words font : List ℕ) (s : Settings) (frame : ℕ) (line : Line
 line-cut words font s frame line less width le = tabulate-cut (less .0) (width .0) (dotOf words font s frame line) le
 
 -- two fonts have the same rows of each character shown
-abbrev pub SameGlyph : List ℕ → List ℕ → Shown → Type 0
-SameGlyph f g (glyph colour code blink) = (l : ℕ) → l < 18 → rowOf f code l ≡ rowOf g code l
-SameGlyph f g blank = Unit
+abbrev pub SameCharacter : List ℕ → List ℕ → Shown → Type 0
+SameCharacter f g (character colour code blink) = (l : ℕ) → l < 18 → rowOf f code l ≡ rowOf g code l
+SameCharacter f g space = Unit
 
 abbrev pub Agree : List ℕ → List ℕ → List Cell → Type 0
 Agree f g [] = Unit
-Agree f g (c ∷ cs) = SameGlyph f g (c .shows) × Agree f g cs
+Agree f g (c ∷ cs) = SameCharacter f g (c .shows) × Agree f g cs
 
 module _ (f g : List ℕ) (v : View) (k : ℕ) where
-  same-shown : (c : Cell) (sh : Shown) → SameGlyph f g sh → has v k c ≡ true → shownDot f v k c sh ≡ shownDot g v k c sh
+  same-shown : (c : Cell) (sh : Shown) → SameCharacter f g sh → has v k c ≡ true → shownDot f v k c sh ≡ shownDot g v k c sh
   unfolding shownDot
-  same-shown c (glyph colour code blink) same in-cell =
+  same-shown c (character colour code blink) same in-cell =
       let h = cell-has 12 18 (v .line .0) k (c .left .0) (c .top .0) (c .size) in-cell in
       rw (same ((v .line .0 - c .top .0) / c .size) (share-below 18 (c .size) (v .line .0) (c .top .0) (h .0 .0) (h .0 .1)))
-  same-shown c blank same in-cell = refl
+  same-shown c space same in-cell = refl
 
   same-dot : (cs : List Cell) (other : ℕ) → Agree f g cs → firstShown (has v k) (cellDot f v k) cs other ≡ firstShown (has v k) (cellDot g v k) cs other
   unfolding firstShown
@@ -102,7 +102,7 @@ module _ (v : View) (left : Dots) (k : ℕ) where
   Before : Pen → Type 0
   Before p = ((k < left .0) × (left .0 ≤ p .x .0)) ⊎ (v .line .0 < p .y .0)
 
-  before-none : (p : Pen) → Before p → has v k (record { left = p .x; top = p .y; size = p .size; background = 0; shows = blank }) ≡ false
+  before-none : (p : Pen) → Before p → has v k (record { left = p .x; top = p .y; size = p .size; background = 0; shows = space }) ≡ false
   unfolding Before
   before-none p b =
       ⊎-elim (λ h. cell-beside 12 18 (v .line .0) k (p .x .0) (p .y .0) (p .size) (omega arith)) (λ h. cell-below 12 18 (v .line .0) k (p .x .0) (p .y .0) (p .size) h) b

@@ -10,7 +10,7 @@ use Rattle.laws.specs.Pick.{pick}
 use Rattle.laws.specs.Lines.{firstShown, holders}
 use Rattle.laws.proofs.Holders.{last-none, last-first}
 use Rattle.laws.proofs.Placing.{Past, past-none, past-cell, past-right, past-below}
-use Rattle.display.specs.declared.Dots.{Dots}
+use Rattle.units.specs.declared.Dots.{Dots}
 use Rattle.display.specs.declared.View.{View}
 use Rattle.display.specs.declared.Pen.{Pen}
 use Rattle.display.specs.declared.Kind.{Kind}

@@ -11,15 +11,15 @@ use Rattle.laws.specs.Pick.{pick}
 use Rattle.laws.specs.Lines.{lastShown}
 use Rattle.laws.proofs.Holders.{last-skip}
 use Rattle.laws.proofs.Placing.{cell-above}
-use Rattle.display.specs.declared.Dots.{Dots}
-use Rattle.display.specs.declared.Lines.{Lines}
+use Rattle.units.specs.declared.Dots.{Dots}
+use Rattle.units.specs.declared.Lines.{Lines}
 use Rattle.display.specs.declared.View.{View}
 use Rattle.display.specs.declared.Kind.{Kind}
 use Rattle.display.specs.declared.Kind.the-variants.{Character, Space, Return, End}
 use Rattle.display.specs.declared.RowEnd.{RowEnd}
 use Rattle.display.specs.declared.RowEnd.the-variants.{Over, Next}
 use Rattle.display.specs.Words.{kindOf}
-use Rattle.display.specs.Cells.{glyph, blank, kindCell, belowRow, rowPen, afterWord, goesOn, cellsFrom}
+use Rattle.display.specs.Cells.{character, space, kindCell, belowRow, rowPen, afterWord, goesOn, cellsFrom}
 use Rattle.display.specs.Picture.{has, cellDot}
 use Rattle.display.specs.Steps.{painted, later, endAt, rowEnd}
 
@@ -39,13 +39,13 @@ module _ (font : List ℕ) (v : View) (left : Dots) (y : Lines) (size k old : �
       ≡ resumed (w ∷ ws) (endAt kd back (λ b. rowEnd ws b))
   unfolding kindCell afterWord lastShown
   passed-kind (Character colour code blink) w ws x back above rest =
-      last-skip (has v k) (cellDot font v k) (record { left = x; top = y; size = size; background = back; shows = glyph colour code blink })
+      last-skip (has v k) (cellDot font v k) (record { left = x; top = y; size = size; background = back; shows = character colour code blink })
       (cellsFrom left ws (record { x = record { 0 = x .0 + 12 * size }; y = y; size = size; background = back })) old
       (cell-above 12 18 (v .line .0) k (x .0) (y .0) size above)
       ∙ rest (record { 0 = x .0 + 12 * size }) back
       ∙ resumed-later w ws (rowEnd ws back)
   passed-kind (Space own) w ws x back above rest =
-      last-skip (has v k) (cellDot font v k) (record { left = x; top = y; size = size; background = own; shows = blank })
+      last-skip (has v k) (cellDot font v k) (record { left = x; top = y; size = size; background = own; shows = space })
       (cellsFrom left ws (record { x = record { 0 = x .0 + 12 * size }; y = y; size = size; background = own })) old
       (cell-above 12 18 (v .line .0) k (x .0) (y .0) size above)
       ∙ rest (record { 0 = x .0 + 12 * size }) own

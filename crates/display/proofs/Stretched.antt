@@ -1,40 +1,23 @@
--- Dots painted one after the other; and what a cell's bits show, stretched over its dots, is what the account says of the cell.
+-- What a cell's bits show, stretched over its dots, is what the account says of the cell.
 -- Assumes nothing.
-use mathlib.Core.Path.{_≡_, refl, ap, _∙_}
+use mathlib.Core.Path.{_≡_, refl, ap}
 use mathlib.Core.Bool.{Bool, true, false}
 use mathlib.Core.List.{List}
 use Prim.Native.Nat.{ℕ, _+_, _-_, _*_, _/_, _^_, _<_, _≤_}
 use native.Mathlib.Nat.{zero-div}
-use native.Mathlib.Omega.{arith}
 use Rattle.laws.specs.Pick.{pick, both}
-use lib.ListN.{length, set}
-use Rattle.laws.specs.Lines.{overlay, lastShown}
+use Rattle.laws.specs.Lines.{lastShown}
 use Rattle.laws.specs.Placing.{spanHas, patched}
-use Rattle.laws.proofs.Overlay.{overlay-leaves, overlay-store}
-use Rattle.laws.proofs.Patched.{patched-none, patched-here, patched-other}
 use Rattle.laws.proofs.Placing.{cell-in-row}
 use Rattle.font.specs.Font.{rowOf, bitSet}
-use Rattle.display.specs.declared.Dots.{Dots}
-use Rattle.display.specs.declared.Lines.{Lines}
+use Rattle.units.specs.declared.Dots.{Dots}
+use Rattle.units.specs.declared.Lines.{Lines}
 use Rattle.display.specs.declared.View.{View}
 use Rattle.display.specs.declared.Kind.the-variants.{Character, Space}
 use Rattle.display.specs.Cells.{kindCell}
 use Rattle.display.specs.Picture.{unlitByte, inColour, steadyOr, shownDot}
-use Rattle.display.specs.Steps.{painted, shownBits, bitByte, stretched}
-
--- one dot more is painted
-pub patch-more : (from i : ℕ) (shows : ℕ → ℕ) (out₀ out : List ℕ) → out ≡ overlay (patched from i shows) out₀ → from + i < length out₀
-    → set out (from + i) (shows i) ≡ overlay (patched from (i + 1) shows) out₀
-patch-more from i shows out₀ out e lt =
-    ap (λ (t : List ℕ). set t (from + i) (shows i)) e
-    ∙ overlay-store (patched from i shows) (patched from (i + 1) shows) (from + i) (shows i) out₀ lt
-    (λ a. patched-here from shows i a) (λ k a ne. patched-other from shows i k a ne)
-
--- the first dot
-pub patch-first : (from : ℕ) (shows : ℕ → ℕ) (out₀ : List ℕ) → from < length out₀ → set out₀ from (shows 0) ≡ overlay (patched from 1 shows) out₀
-patch-first from shows out₀ lt =
-    ap (λ (n : ℕ). set out₀ n (shows 0)) (omega arith)
-    ∙ patch-more from 0 shows out₀ out₀ (overlay-leaves (patched from 0 shows) out₀ (λ k a l. patched-none from shows k a)) (omega arith)
+use Rattle.stretch.specs.Stretch.{bitByte, stretched}
+use Rattle.display.specs.Steps.{painted, shownBits}
 
 no-bits : (j : ℕ) → bitSet 0 j ≡ false
 no-bits j = simp (zero-div (2 ^ (11 - j)))

@@ -12,8 +12,8 @@ use Rattle.laws.specs.Lines.{overlay, lastShown}
 use Rattle.laws.proofs.Overlay.{overlay-leaves, overlay-same, overlay-twice}
 use Rattle.laws.proofs.Holders.{last-append}
 use Rattle.laws.proofs.Placing.{room-step}
-use Rattle.display.specs.declared.Dots.{Dots}
-use Rattle.display.specs.declared.Lines.{Lines}
+use Rattle.units.specs.declared.Dots.{Dots}
+use Rattle.units.specs.declared.Lines.{Lines}
 use Rattle.display.specs.declared.View.{View}
 use Rattle.display.specs.declared.Pen.{Pen}
 use Rattle.display.specs.declared.Placed.{Placed}

@@ -1,66 +1,76 @@
--- What a call leaves: an accepted one the line and the bytes after it, a refused one all as it was.
+-- The line with the display on; and what a call leaves: an accepted one the line and the bytes after it, a refused one all as it was.
 -- Assumes nothing.
 use mathlib.Core.Path.{_≡_, ap, _∙_}
 use mathlib.Core.Bool.{Bool, true, false}
 use mathlib.Core.List.{List, [], _∷_, _++_}
-use mathlib.Core.Logic.{⊎-elim}
-use native.Mathlib.Omega.{arith}
-use types.Run.{OneOf}
 use Prim.Native.Nat.{ℕ, _≤_}
-use borrow.Author.Tests.{eq-eqb, ne-eqb}
+use types.Run.{OneOf}
 use denote.Enum.Declared.{tagOf}
+use borrow.Author.Tests.{eq-eqb, ne-eqb}
 use lib.ListN.{length, take, drop, replicate}
 use lib.Seq.{length-take-le}
-use Rattle.laws.specs.Said.{Said, accepted}
+use Rattle.laws.specs.Said.{Said}
+use Rattle.laws.specs.Lines.{overlay}
 use Rattle.laws.specs.Lists.{tabulate}
+use Rattle.laws.proofs.Overlay.{overlay-filled}
 use Rattle.laws.proofs.Lists.{tabulate-same, tabulate-constant}
-use Rattle.display.specs.declared.Dots.{Dots}
-use Rattle.display.specs.declared.Lines.{Lines}
-use Rattle.display.specs.declared.Settings.{Settings}
-use Rattle.display.specs.declared.Painted.{Painted}
-use Rattle.display.specs.declared.Painted.the-variants.{Done, BadSetting, ReservedRatio, BadWords, BadFont, OffScreen, NoRoom}
-use Rattle.display.specs.Picture.{litIn, dotAt}
-use Rattle.display.specs.Painting.{leftOf, screenOf, viewOf, dotOf, lineOf, answerOf, leftBy, said}
-use Rattle.display.proofs.Painted.{the-type}
+use Rattle.units.specs.declared.Dots.{Dots}
+use Rattle.units.specs.declared.Lines.{Lines}
+use Rattle.judging.specs.declared.Settings.{Settings}
+use Rattle.judging.specs.declared.Painted.{Painted}
+use Rattle.judging.specs.declared.Painted.the-variants.{Done}
+use Rattle.judging.specs.Judging.{answerOf, said}
+use Rattle.judging.proofs.Accepted.{done-is, not-done}
+use Rattle.judging.proofs.Painted.{the-type}
+use Rattle.display.specs.declared.View.{View}
+use Rattle.display.specs.Cells.{rowPen}
+use Rattle.display.specs.Picture.{video, outsideByte, litIn, dotAt}
+use Rattle.display.specs.Painting.{firstDot, firstLine, screenOf, viewOf, dotOf, lineOf, leftBy}
+use Rattle.display.specs.Steps.{painted}
+use Rattle.display.proofs.Join.{joined}
 
--- any other case than Done has another number than 0
-pub not-done : (r : Painted) → OneOf (1 ∷ 2 ∷ 3 ∷ 4 ∷ 5 ∷ 6 ∷ []) (tagOf the-type r) → said r .number ≡ 0 → ⊥
-not-done Done w e = ⊎-elim (λ z. omega arith) (⊎-elim (λ z. omega arith) (⊎-elim (λ z. omega arith) (⊎-elim (λ z. omega arith) (⊎-elim (λ z. omega arith) (λ z. omega arith))))) w
-not-done BadSetting w e = omega arith
-not-done ReservedRatio w e = omega arith
-not-done BadWords w e = omega arith
-not-done BadFont w e = omega arith
-not-done OffScreen w e = omega arith
-not-done NoRoom w e = omega arith
+-- a line of outside bytes, painted over by the cells in turn
+pub on-line : (words font : List ℕ) (s : Settings) (frame : ℕ) (line : Lines) (lit : Bool) (n : ℕ) (mid last : List ℕ) → lit ≡ litIn (s .ratio) (s .frequency) frame
+    → mid ≡ replicate n (outsideByte (s .mode) (s .colour))
+    → last ≡ overlay (painted font (record { left = firstDot s; line = line; mode = s .mode; lit = lit }) (screenOf words s)) mid
+    → last ≡ tabulate n (dotAt font (viewOf s frame line) (s .colour) (screenOf words s))
+unfolding dotAt
+on-line words font s frame line lit n mid last blink filled walked =
+    let view : Bool → View = λ b. record { left = firstDot s; line = line; mode = s .mode; lit = b } in
+    let other = outsideByte (s .mode) (s .colour) in
+    walked
+    ∙ ap (λ (t : List ℕ). overlay (painted font (view lit) (screenOf words s)) t) filled
+    ∙ overlay-filled (painted font (view lit) (screenOf words s)) other n
+    ∙ tabulate-same n _ _ (λ k lt. joined (view lit) (firstDot s) k font words (rowPen (firstDot s) (firstLine s) 1 (s .colour)) other)
+    ∙ ap (λ (b : Bool). tabulate n (dotAt font (view b) (s .colour) (screenOf words s))) blink
 
-module _ (words font : List ℕ) (s : Settings) (frame : ℕ) (line : Lines) (width : Dots) (out : List ℕ) where
-  pub refused-leaves : (answerOf words font s line width (length out) .number ≡ 0 → ⊥) → out ≡ leftBy words font s frame line width out
+module _ (words font : List ℕ) (s : Settings) (frame : ℕ) (line : Lines) (width : Dots) (out : List ℕ) (r : Painted) (e : said r ≡ answerOf words font s line width (length out)) where
+  pub refused-leaves : OneOf (1 ∷ 2 ∷ 3 ∷ 4 ∷ 5 ∷ 6 ∷ []) (tagOf the-type r) → out ≡ leftBy words font s frame line width out
   unfolding leftBy
-  refused-leaves ne = simp (ne-eqb (answerOf words font s line width (length out) .number) 0 ne)
+  refused-leaves other =
+      simp (ne-eqb (answerOf words font s line width (length out) .number) 0 (λ z. not-done r other (ap (λ (a : Said). a .number) e ∙ z)))
 
-  module _ (ok : answerOf words font s line width (length out) ≡ accepted 0) (fits : width .0 ≤ length out) (last : List ℕ) where
+  module _ (done : r ≡ Done) (fits : width .0 ≤ length out) (last : List ℕ) where
     leaves : last ≡ lineOf words font s frame line width → last ++ drop (width .0) out ≡ leftBy words font s frame line width out
     unfolding leftBy
-    leaves e =
-        simp (eq-eqb (answerOf words font s line width (length out) .number) 0 (ap (λ (a : Said). a .number) ok))
-        (ap (λ (t : List ℕ). t ++ drop (width .0) out) e)
+    leaves l =
+        simp (eq-eqb (answerOf words font s line width (length out) .number) 0 (ap (λ (a : Said). a .number) (done-is r _ e done)))
+        (ap (λ (t : List ℕ). t ++ drop (width .0) out) l)
 
-    pub shown : (lit : Bool) → s .on ≡ true → lit ≡ litIn (s .ratio) (s .frequency) frame
-        → last ≡ tabulate (length (take (width .0) out)) (dotAt font (record { left = leftOf s; line = line; mode = s .mode; lit = lit }) (s .colour) (screenOf words s))
+    pub shown : s .on ≡ true → last ≡ tabulate (length (take (width .0) out)) (dotAt font (viewOf s frame line) (s .colour) (screenOf words s))
         → last ++ drop (width .0) out ≡ leftBy words font s frame line width out
     unfolding dotOf
-    shown lit on blink e =
+    shown on l =
         leaves
-        (e
-        ∙ ap (λ (n : ℕ). tabulate n (dotAt font (record { left = leftOf s; line = line; mode = s .mode; lit = lit }) (s .colour) (screenOf words s))) (length-take-le (width .0) out fits)
-        ∙ ap (λ (b : Bool). tabulate (width .0) (dotAt font (record { left = leftOf s; line = line; mode = s .mode; lit = b }) (s .colour) (screenOf words s))) blink
+        (l
+        ∙ ap (λ (n : ℕ). tabulate n (dotAt font (viewOf s frame line) (s .colour) (screenOf words s))) (length-take-le (width .0) out fits)
         ∙ tabulate-same (width .0) (dotAt font (viewOf s frame line) (s .colour) (screenOf words s)) (dotOf words font s frame line) (λ k lt. simp on))
 
-    pub dark : s .on ≡ false → last ≡ replicate (length (take (width .0) out)) 0 → last ++ drop (width .0) out ≡ leftBy words font s frame line width out
+    pub dark : s .on ≡ false → last ≡ replicate (length (take (width .0) out)) video → last ++ drop (width .0) out ≡ leftBy words font s frame line width out
     unfolding dotOf
-    dark off e =
+    dark off l =
         leaves
-        (e
-        ∙ ap (λ (n : ℕ). replicate n 0) (length-take-le (width .0) out fits)
-        ∙ tabulate-constant 0 (width .0)
-        ∙ tabulate-same (width .0) (λ k. 0) (dotOf words font s frame line) (λ k lt. simp off))
+        (l
+        ∙ ap (λ (n : ℕ). replicate n video) (length-take-le (width .0) out fits)
+        ∙ tabulate-constant video (width .0)
+        ∙ tabulate-same (width .0) (λ k. video) (dotOf words font s frame line) (λ k lt. simp off))

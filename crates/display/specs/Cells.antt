@@ -7,8 +7,8 @@ use mathlib.Core.List.{List, [], _∷_, _++_}
 use mathlib.Core.Bool.{Bool, true, false}
 use Rattle.laws.specs.Pick.{pick}
 use Rattle.font.specs.Font.{cellRows, cellColumns}
-use Rattle.display.specs.declared.Dots.{Dots}
-use Rattle.display.specs.declared.Lines.{Lines}
+use Rattle.units.specs.declared.Dots.{Dots}
+use Rattle.units.specs.declared.Lines.{Lines}
 use Rattle.display.specs.declared.Pen.{Pen}
 use Rattle.display.specs.declared.Placed.{Placed}
 use Rattle.display.specs.declared.Kind.{Kind}
@@ -17,8 +17,8 @@ use Rattle.display.specs.Words.{kindOf}
 
 -- what a cell shows: a character of the font in a colour, blinking or not, or nothing
 pub data Shown : Type 0 where
-  glyph : ℕ → ℕ → Bool → Shown
-  blank : Shown
+  character : ℕ → ℕ → Bool → Shown
+  space : Shown
 
 pub record Cell : Type 0 where
   pub left : Dots
@@ -34,8 +34,8 @@ placedWord w p = record { x = p .x; y = p .y; size = p .size; kind = kindOf w }
 -- the cell of a word of this kind: none for a return and an end. `before` is the background before it; a space has its own.
 unfoldable pub kindCell : Dots → Lines → ℕ → ℕ → Kind → List Cell
 kindCell x y size before (Character colour code blink) =
-    record { left = x; top = y; size = size; background = before; shows = glyph colour code blink } ∷ []
-kindCell x y size before (Space own) = record { left = x; top = y; size = size; background = own; shows = blank } ∷ []
+    record { left = x; top = y; size = size; background = before; shows = character colour code blink } ∷ []
+kindCell x y size before (Space own) = record { left = x; top = y; size = size; background = own; shows = space } ∷ []
 kindCell x y size before (Return next spacing) = []
 kindCell x y size before End = []
 

@@ -10,7 +10,7 @@ use Rattle.laws.specs.Lines.{firstShown}
 use Rattle.laws.specs.Placing.{cellHas}
 use Rattle.font.specs.Font.{cellRows, cellColumns, fontDot}
 use Rattle.display.specs.declared.View.{View}
-use Rattle.display.specs.Cells.{Shown, glyph, blank, Cell}
+use Rattle.display.specs.Cells.{Shown, character, space, Cell}
 
 abbrev pub video : ℕ
 video = 0
@@ -44,11 +44,11 @@ has v k c = cellHas cellColumns cellRows (c .left .0) (c .top .0) (c .size) (v .
 
 -- dot k of the line in a cell that has it: a cell of size s shows each dot of its font s dots wide and s lines high
 unfoldable pub shownDot : List ℕ → View → ℕ → Cell → Shown → ℕ
-shownDot font v k c (glyph colour code blink) =
+shownDot font v k c (character colour code blink) =
     pick (both (steadyOr blink (v .lit)) (fontDot font code ((v .line .0 - c .top .0) / c .size) ((k - c .left .0) / c .size)))
     (inColour colour)
     (unlitByte (v .mode) (c .background))
-shownDot font v k c blank = unlitByte (v .mode) (c .background)
+shownDot font v k c space = unlitByte (v .mode) (c .background)
 
 abbrev pub cellDot : List ℕ → View → ℕ → Cell → ℕ
 cellDot font v k c = shownDot font v k c (c .shows)

@@ -1,14 +1,14 @@
 -- What the painter's own steps do, for the contracts of its private functions: no part of the account. proofs/Join.antt joins it to the
 -- account's list of cells.
 -- Assumes nothing.
-use Prim.Native.Nat.{ℕ, suc, _+_, _-_, _*_, _/_, _≤_}
+use Prim.Native.Nat.{ℕ, suc, _+_, _-_, _*_, _/_, _≤_, _<_}
 use mathlib.Core.List.{List, [], _∷_}
 use mathlib.Core.Bool.{Bool}
 use Rattle.laws.specs.Pick.{pick}
 use Rattle.laws.specs.Lines.{lastShown}
-use Rattle.laws.specs.Placing.{patched}
-use Rattle.font.specs.Font.{rowOf, bitSet}
-use Rattle.display.specs.declared.Lines.{Lines}
+use Rattle.font.specs.Font.{fontCells, cellRows, cellColumns, rowOf}
+use Rattle.units.specs.declared.Lines.{Lines}
+use Rattle.judging.specs.declared.Settings.{Settings}
 use Rattle.display.specs.declared.Pen.{Pen}
 use Rattle.display.specs.declared.View.{View}
 use Rattle.display.specs.declared.Kind.{Kind}
@@ -27,14 +27,6 @@ painted font v cs k old = lastShown (has v k) (cellDot font v k) cs old
 abbrev pub shownBits : List ℕ → View → Lines → ℕ → ℕ → Bool → ℕ
 shownBits font v y size code blink = pick (steadyOr blink (v .lit)) (rowOf font code ((v .line .0 - y .0) / size)) 0
 
--- a column's byte
-abbrev pub bitByte : ℕ → ℕ → ℕ → ℕ → ℕ
-bitByte bits j on off = pick (bitSet bits j) on off
-
--- dot k where n dots from x on show these bits, each bit `size` dots wide
-abbrev pub stretched : ℕ → ℕ → ℕ → ℕ → ℕ → ℕ → ℕ → ℕ → ℕ
-stretched x n size bits on off k old = patched x n (λ d. bitByte bits (d / size) on off) k old
-
 -- where a row ends: one word further
 abbrev pub later : RowEnd → RowEnd
 later Over = Over
@@ -52,23 +44,44 @@ unfoldable pub rowEnd : List ℕ → ℕ → RowEnd
 rowEnd [] back = Over
 rowEnd (w ∷ ws) back = endAt (kindOf w) back (λ b. rowEnd ws b)
 
+-- the largest colour, size of a row, and spacing; and a place that no word reaches
+abbrev pub mostColour : ℕ
+mostColour = 7
+
+abbrev pub mostSize : ℕ
+mostSize = 4
+
+abbrev pub mostSpacing : ℕ
+mostSpacing = 12
+
+abbrev pub far : ℕ
+far = 65536
+
 -- what a word decodes to is in range
 abbrev pub Sound : Kind → Type 0
-Sound (Character colour code blink) = (colour ≤ 7) × (code ≤ 61)
-Sound (Space own) = own ≤ 7
-Sound (Return size spacing) = (1 ≤ size) × ((size ≤ 4) × (spacing .0 ≤ 12))
+Sound (Character colour code blink) = (colour ≤ mostColour) × (code < fontCells)
+Sound (Space own) = own ≤ mostColour
+Sound (Return size spacing) = (1 ≤ size) × ((size ≤ mostSize) × (spacing .0 ≤ mostSpacing))
 Sound End = Unit
 
 -- what the end of a row says is in range, and its words are there
 abbrev pub EndSound : ℕ → RowEnd → Type 0
 EndSound n Over = Unit
-EndSound n (Next read size spacing background) = ((1 ≤ read) × (read ≤ n)) × (((1 ≤ size) × (size ≤ 4)) × ((spacing .0 ≤ 12) × (background ≤ 7)))
+EndSound n (Next read size spacing background) = ((1 ≤ read) × (read ≤ n)) × (((1 ≤ size) × (size ≤ mostSize)) × ((spacing .0 ≤ mostSpacing) × (background ≤ mostColour)))
 
--- room for n more words at the pen: a word goes at most 48 dots right or 84 lines down
+-- settings that the painter's arithmetic takes
+pub record Usable (s : Settings) : Type 0 where
+  pub colour : s .colour ≤ mostColour
+  pub h : s .h ≤ 63
+  pub v : s .v ≤ 63
+  pub ratio : s .ratio ≤ 2
+  pub frequency : s .frequency ≤ 3
+
+-- room for n more words at the pen: a word goes right by a cell of the largest size at most, and down by such a row and the largest spacing
 pub record Room (v : View) (p : Pen) (n : ℕ) : Type 0 where
-  pub start : v .left .0 + 48 * n ≤ 65536
-  pub right : p .x .0 + 48 * n ≤ 65536
-  pub down : p .y .0 + 84 * n ≤ 65536
+  pub start : v .left .0 + cellColumns * mostSize * n ≤ far
+  pub right : p .x .0 + cellColumns * mostSize * n ≤ far
+  pub down : p .y .0 + (cellRows * mostSize + mostSpacing) * n ≤ far
   pub some : 1 ≤ p .size
-  pub size : p .size ≤ 4
-  pub colour : p .background ≤ 7
+  pub size : p .size ≤ mostSize
+  pub colour : p .background ≤ mostColour

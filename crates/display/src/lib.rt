@@ -1,21 +1,20 @@
 // The painter of the on-screen display: one line of dots from display words, font, settings and frame number.
 ghost use mathlib.Core.Path.{_≡_};
 ghost use Prim.Native.Nat.{_+_, _*_, _≤_, _<_};
-ghost use lib.ListN.{length, replicate};
+ghost use lib.ListN.{length};
 ghost use Rattle.laws.specs.Lines.{overlay};
 ghost use Rattle.laws.specs.Lists.{tabulate};
-ghost use Rattle.laws.specs.Placing.{patched};
-ghost use Rattle.font.specs.Font.{fontRows, cellRows, cellColumns};
+ghost use Rattle.font.specs.Font.{fontCells, fontRows, cellRows};
+ghost use Rattle.judging.specs.Judging.{answerOf, said, wordCount};
 ghost use Rattle.display.specs.Words.{kindOf};
-ghost use Rattle.display.specs.Cells.{placedWord, cellOf, rightOf, belowRow, rowPen, cellsFrom, cells};
+ghost use Rattle.display.specs.Cells.{placedWord, cellOf, rightOf, belowRow, rowPen, cellsFrom};
 ghost use Rattle.display.specs.Picture.{unlitByte, outsideByte, divisorOf, litIn, dotAt};
-ghost use Rattle.display.specs.Painting.{answerOf, leftBy, said, inRange, wordCount};
-ghost use Rattle.display.specs.Steps.{painted, shownBits, bitByte, stretched, rowEnd, Sound, EndSound, Room};
-
-// Dots are counted in OSD clocks, lines in scan lines; one is never passed for the other.
-pub struct Dots(pub usize);
-
-pub struct Lines(pub usize);
+ghost use Rattle.display.specs.Painting.{viewOf, screenOf, leftBy};
+ghost use Rattle.display.specs.Steps.{painted, shownBits, rowEnd, mostColour, mostSize, mostSpacing, far, Usable, Sound, EndSound, Room};
+use judging::Painted;
+use judging::Settings;
+use units::Dots;
+use units::Lines;
 
 // What a word is.
 pub enum Kind {
@@ -35,31 +34,31 @@ pub enum Kind {
 }
 
 // A word of the decoded screen: where it stands, its row's size, and what it is.
-pub struct Placed {
-    pub x: Dots,
-    pub y: Lines,
-    pub size: usize,
-    pub kind: Kind,
+struct Placed {
+    x: Dots,
+    y: Lines,
+    size: usize,
+    kind: Kind,
 }
 
 // Where the next word stands, and the background by then.
-pub struct Pen {
-    pub x: Dots,
-    pub y: Lines,
-    pub size: usize,
-    pub background: u8,
+struct Pen {
+    x: Dots,
+    y: Lines,
+    size: usize,
+    background: u8,
 }
 
 // What stays the same over a line: where rows start, the line, the mode, and whether blinking characters are lit.
-pub struct View {
-    pub left: Dots,
-    pub line: Lines,
-    pub mode: u32,
-    pub lit: bool,
+struct View {
+    left: Dots,
+    line: Lines,
+    mode: u32,
+    lit: bool,
 }
 
 // Where a row ends: with the words, or at a return, after so many words.
-pub enum RowEnd {
+enum RowEnd {
     Over,
     Next {
         read: usize,
@@ -69,45 +68,10 @@ pub enum RowEnd {
     },
 }
 
-// What the host sets. Numbers are wide, so that a value out of range is seen and refused.
-#[repr(C)]
-pub struct Settings {
-    pub on: bool,
-    pub mode: u32,
-    pub colour: u32,
-    pub h: u32,
-    pub v: u32,
-    pub ratio: u32,
-    pub frequency: u32,
-}
+// The codes that are no characters.
+const RETURN: u16 = 62;
 
-pub enum Painted {
-    Done,
-    // A setting is outside its range.
-    BadSetting,
-    // Ratio 3.
-    ReservedRatio,
-    // Not 64 words, or one above 1023.
-    BadWords,
-    BadFont,
-    // The line is above 1023 or the width above 1024.
-    OffScreen,
-    // The output is shorter than the width.
-    NoRoom,
-}
-
-const WORDS: usize = 64;
-
-const MOST_WORD: u16 = 1023;
-
-const MOST_LINE: usize = 1023;
-
-const MOST_WIDTH: usize = 1024;
-
-// Dots and lines of a cell at size 1.
-const CELL_COLUMNS: usize = 12;
-
-const CELL_ROWS: usize = 18;
+const SPACE: u16 = 63;
 
 // Paints the first `width` dots of a line to `out`; the bytes after them stay, and all stay where the call is refused.
 pub fn paint(
@@ -121,20 +85,12 @@ pub fn paint(
 ) -> Painted
     ensures { λ r. ⌜ (said r ≡ answerOf (now (words .entry)) (now (font .entry)) settings line width (length (now (out .entry)))) × (now (out .exit) ≡ leftBy (now (words .entry)) (now (font .entry)) settings frame line width (now (out .entry))) ⌝ }
 {
-    let verdict = judged(words, font, settings, line, width, out.len());
+    let verdict = judging::judged(words, font, settings, line, width, out.len());
     if let Painted::Done = verdict {
         let end = width.0;
         let dots = &mut out[..end];
         if settings.on {
-            let lit = blink_lit(settings.ratio, settings.frequency, frame);
-            let view = View {
-                left: Dots(4 * settings.h as usize),
-                line: line,
-                mode: settings.mode,
-                lit: lit,
-            };
-            let top = Lines(4 * settings.v as usize);
-            paint_line(words, font, view, top, settings.colour as u8, dots);
+            paint_line(words, font, settings, frame, line, dots);
         } else {
             fill::fill(dots, 0);
         }
@@ -142,71 +98,28 @@ pub fn paint(
     verdict
 }
 
-// The first number of the table that applies, or Done.
-fn judged(
+// The line with the display on: all outside, then the cells over it.
+fn paint_line(
     words: &[u16],
     font: &[u16],
     settings: Settings,
+    frame: u32,
     line: Lines,
-    width: Dots,
-    room: usize,
-) -> Painted
-    ensures { λ r. ⌜ said r ≡ answerOf (now (words .entry)) (now (font .entry)) settings line width room ⌝ }
+    out: &mut [u8],
+)
+    requires { ⌜ (length (now words) ≡ wordCount) × ((length (now font) ≡ fontRows) × Usable settings) ⌝ }
+    ensures { λ _. ⌜ now (out .exit) ≡ tabulate (length (now (out .entry))) (dotAt (now (font .entry)) (viewOf settings frame line) (settings .colour) (screenOf (now (words .entry)) settings)) ⌝ }
 {
-    if !in_range(settings) {
-        return Painted::BadSetting;
-    }
-    if settings.ratio == 3 {
-        return Painted::ReservedRatio;
-    }
-    if words.len() != WORDS {
-        return Painted::BadWords;
-    }
-    if !font::all_within(words, MOST_WORD) {
-        return Painted::BadWords;
-    }
-    if !font::is_font(font) {
-        return Painted::BadFont;
-    }
-    if MOST_LINE < line.0 {
-        return Painted::OffScreen;
-    }
-    if MOST_WIDTH < width.0 {
-        return Painted::OffScreen;
-    }
-    if room < width.0 {
-        return Painted::NoRoom;
-    }
-    Painted::Done
-}
-
-fn in_range(s: Settings) -> bool
-    ensures { λ r. ⌜ r ≡ inRange s ⌝ }
-{
-    if 3 < s.mode {
-        return false;
-    }
-    if 7 < s.colour {
-        return false;
-    }
-    if 63 < s.h {
-        return false;
-    }
-    if 63 < s.v {
-        return false;
-    }
-    if 3 < s.ratio {
-        return false;
-    }
-    s.frequency <= 3
-}
-
-// The line with the display on: all outside, then the cells over it.
-fn paint_line(words: &[u16], font: &[u16], view: View, top: Lines, start: u8, out: &mut [u8])
-    requires { ⌜ (length (now words) ≡ wordCount) × ((length (now font) ≡ fontRows) × ((view .left .0 ≤ 252) × ((top .0 ≤ 252) × (start ≤ 7)))) ⌝ }
-    ensures { λ _. ⌜ now (out .exit) ≡ tabulate (length (now (out .entry))) (dotAt (now (font .entry)) view start (cells (view .left) top start (now (words .entry)))) ⌝ }
-{
-    fill::fill(out, outside(view.mode, start));
+    let lit = blink_lit(settings.ratio, settings.frequency, frame);
+    let view = View {
+        left: Dots(4 * settings.h as usize),
+        line: line,
+        mode: settings.mode,
+        lit: lit,
+    };
+    let top = Lines(4 * settings.v as usize);
+    let start = settings.colour as u8;
+    fill::fill(out, outside(settings.mode, start));
     row_step(words, font, view, top, 1, start, out);
 }
 
@@ -227,7 +140,7 @@ fn row_step(
     if line < y.0 {
         return;
     }
-    if line < y.0 + CELL_ROWS * size {
+    if line < y.0 + font::CELL_ROWS * size {
         let left = view.left;
         cell_step(
             words,
@@ -286,7 +199,7 @@ fn cell_step(words: &[u16], font: &[u16], view: View, pen: Pen, out: &mut [u8])
 
 // How many words a row takes, with its return, and what follows from them.
 fn row_end(words: &[u16], background: u8) -> RowEnd
-    requires { ⌜ background ≤ 7 ⌝ }
+    requires { ⌜ background ≤ mostColour ⌝ }
     ensures { λ r. ⌜ (r ≡ rowEnd (now (words .entry)) background) × EndSound (length (now (words .entry))) r ⌝ }
 {
     let mut back = background;
@@ -321,12 +234,12 @@ fn row_end(words: &[u16], background: u8) -> RowEnd
 
 // Where the next cell of the row stands, with the background from there on.
 fn right(pen: Pen, background: u8) -> Pen
-    requires { ⌜ (pen .x .0 ≤ 65536) × (pen .size ≤ 4) ⌝ }
+    requires { ⌜ (pen .x .0 ≤ far) × (pen .size ≤ mostSize) ⌝ }
     ensures { λ r. ⌜ r ≡ rightOf pen background ⌝ }
 {
     let y = pen.y;
     Pen {
-        x: Dots(pen.x.0 + CELL_COLUMNS * pen.size),
+        x: Dots(pen.x.0 + font::CELL_COLUMNS * pen.size),
         y: y,
         size: pen.size,
         background: background,
@@ -335,10 +248,10 @@ fn right(pen: Pen, background: u8) -> Pen
 
 // Where the next row starts.
 fn below(y: Lines, size: usize, spacing: Lines) -> Lines
-    requires { ⌜ (y .0 ≤ 65536) × ((size ≤ 4) × (spacing .0 ≤ 12)) ⌝ }
+    requires { ⌜ (y .0 ≤ far) × ((size ≤ mostSize) × (spacing .0 ≤ mostSpacing)) ⌝ }
     ensures { λ r. ⌜ r ≡ belowRow y size spacing ⌝ }
 {
-    Lines(y.0 + CELL_ROWS * size + spacing.0)
+    Lines(y.0 + font::CELL_ROWS * size + spacing.0)
 }
 
 // A word where the pen is.
@@ -356,12 +269,13 @@ fn place(word: u16, pen: Pen) -> Placed
     }
 }
 
+// What a word is, by the ten bits that are kept of it.
 fn decode(word: u16) -> Kind
-    ensures { λ r. ⌜ (r ≡ kindOf word) × Sound r ⌝ }
+    ensures { λ r. ⌜ r ≡ kindOf word ⌝ }
 {
     let code = word / 16 % 64;
     match code {
-        63 => {
+        SPACE => {
             if word % 2 == 1 {
                 Kind::End
             } else {
@@ -370,7 +284,7 @@ fn decode(word: u16) -> Kind
                 }
             }
         }
-        62 => Kind::Return {
+        RETURN => Kind::Return {
             size: (word / 4 % 4 + 1) as usize,
             spacing: Lines((word % 4 * 4) as usize),
         },
@@ -384,7 +298,7 @@ fn decode(word: u16) -> Kind
 
 // Paints the cell of a word in the row that the line cuts; `background` is the one before the word.
 fn draw(cell: Placed, background: u8, font: &[u16], view: View, out: &mut [u8])
-    requires { ⌜ (length (now font) ≡ fontRows) × (Sound (cell .kind) × ((background ≤ 7) × (((1 ≤ cell .size) × (cell .size ≤ 4)) × ((cell .x .0 ≤ 65536) × ((cell .y .0 ≤ view .line .0) × (view .line .0 < cell .y .0 + cellRows * cell .size)))))) ⌝ }
+    requires { ⌜ (length (now font) ≡ fontRows) × (Sound (cell .kind) × ((background ≤ mostColour) × (((1 ≤ cell .size) × (cell .size ≤ mostSize)) × ((cell .x .0 ≤ far) × ((cell .y .0 ≤ view .line .0) × (view .line .0 < cell .y .0 + cellRows * cell .size)))))) ⌝ }
     ensures { λ _. ⌜ now (out .exit) ≡ overlay (painted (now (font .entry)) view (cellOf cell background)) (now (out .entry)) ⌝ }
 {
     let kind = cell.kind;
@@ -399,11 +313,11 @@ fn draw(cell: Placed, background: u8, font: &[u16], view: View, out: &mut [u8])
         } => {
             let bits = shown_bits(font, view, y, size, code, blink);
             let off = unlit(view.mode, background);
-            stretch(out, x, size, bits, 8 + colour, off);
+            stretch::stretch(out, x, size as u8, bits, 8 + colour, off);
         }
         Kind::Space { background: own } => {
             let off = unlit(view.mode, own);
-            stretch(out, x, size, 0, off, off);
+            stretch::stretch(out, x, size as u8, 0, off, off);
         }
         Kind::Return {
             size: _,
@@ -415,7 +329,7 @@ fn draw(cell: Placed, background: u8, font: &[u16], view: View, out: &mut [u8])
 
 // The bits of a character's row that the line cuts: none where it is blinked out.
 fn shown_bits(font: &[u16], view: View, y: Lines, size: usize, code: usize, blink: bool) -> u16
-    requires { ⌜ (length (now font) ≡ fontRows) × ((code ≤ 61) × ((1 ≤ size) × ((y .0 ≤ view .line .0) × (view .line .0 < y .0 + cellRows * size)))) ⌝ }
+    requires { ⌜ (length (now font) ≡ fontRows) × ((code < fontCells) × ((1 ≤ size) × ((y .0 ≤ view .line .0) × (view .line .0 < y .0 + cellRows * size)))) ⌝ }
     ensures { λ r. ⌜ r ≡ shownBits (now (font .entry)) view y size code blink ⌝ }
 {
     if blink {
@@ -424,79 +338,13 @@ fn shown_bits(font: &[u16], view: View, y: Lines, size: usize, code: usize, blin
         }
     }
     let line = view.line.0;
-    let at = CELL_ROWS * code + (line - y.0) / size;
+    let at = font::CELL_ROWS * code + (line - y.0) / size;
     font[at]
-}
-
-// A cell's row of 12 bits over the dots from x on, each bit `size` dots wide, cut where the line ends.
-fn stretch(out: &mut [u8], x: Dots, size: usize, bits: u16, on: u8, off: u8)
-    requires { ⌜ ((1 ≤ size) × (size ≤ 4)) × (x .0 ≤ 65536) ⌝ }
-    ensures { λ _. ⌜ now (out .exit) ≡ overlay (stretched (x .0) (cellColumns * size) size bits on off) (now (out .entry)) ⌝ }
-{
-    if x.0 + CELL_COLUMNS * size <= out.len() {
-        stretch_whole(out, x, size, bits, on, off)
-    } else {
-        stretch_cut(out, x, size, bits, on, off)
-    }
-}
-
-// A cell that the line has whole: column by column, with no test of the line's end and no division.
-fn stretch_whole(out: &mut [u8], x: Dots, size: usize, bits: u16, on: u8, off: u8)
-    requires { ⌜ ((1 ≤ size) × (size ≤ 4)) × (x .0 + cellColumns * size ≤ length (now out)) ⌝ }
-    ensures { λ _. ⌜ now (out .exit) ≡ overlay (stretched (x .0) (cellColumns * size) size bits on off) (now (out .entry)) ⌝ }
-{
-    let from = x.0;
-    let mut j = 0;
-    while j < CELL_COLUMNS {
-        column(out, from + j * size, size, bit_byte(bits, j, on, off));
-        j += 1;
-    }
-}
-
-// One to four dots of one byte.
-fn column(out: &mut [u8], from: usize, size: usize, byte: u8)
-    requires { ⌜ ((1 ≤ size) × (size ≤ 4)) × (from + size ≤ length (now out)) ⌝ }
-    ensures { λ _. ⌜ now (out .exit) ≡ overlay (patched from size (λ d. byte)) (now (out .entry)) ⌝ }
-{
-    out[from] = byte;
-    if size == 1 {
-        return;
-    }
-    out[from + 1] = byte;
-    if size == 2 {
-        return;
-    }
-    out[from + 2] = byte;
-    if size == 3 {
-        return;
-    }
-    out[from + 3] = byte;
-}
-
-// A cell that the line has a part of, or nothing: dot by dot.
-fn stretch_cut(out: &mut [u8], x: Dots, size: usize, bits: u16, on: u8, off: u8)
-    requires { ⌜ ((1 ≤ size) × (size ≤ 4)) × ((x .0 ≤ 65536) × (length (now out) < x .0 + cellColumns * size)) ⌝ }
-    ensures { λ _. ⌜ now (out .exit) ≡ overlay (stretched (x .0) (cellColumns * size) size bits on off) (now (out .entry)) ⌝ }
-{
-    let from = x.0;
-    let mut i = 0;
-    while from + i < out.len() {
-        out[from + i] = bit_byte(bits, i / size, on, off);
-        i += 1;
-    }
-}
-
-// Column j of a row of 12 bits, bit 11 leftmost.
-fn bit_byte(bits: u16, j: usize, on: u8, off: u8) -> u8
-    requires { ⌜ j ≤ 11 ⌝ }
-    ensures { λ r. ⌜ r ≡ bitByte bits j on off ⌝ }
-{
-    if (bits >> (11 - j)) % 2 == 1 { on } else { off }
 }
 
 // An unlit dot of a cell, and each dot of a space.
 fn unlit(mode: u32, background: u8) -> u8
-    requires { ⌜ background ≤ 7 ⌝ }
+    requires { ⌜ background ≤ mostColour ⌝ }
     ensures { λ r. ⌜ r ≡ unlitByte mode background ⌝ }
 {
     if mode <= 1 { 0 } else { 8 + background }
@@ -504,7 +352,7 @@ fn unlit(mode: u32, background: u8) -> u8
 
 // A dot outside every cell.
 fn outside(mode: u32, start: u8) -> u8
-    requires { ⌜ start ≤ 7 ⌝ }
+    requires { ⌜ start ≤ mostColour ⌝ }
     ensures { λ r. ⌜ r ≡ outsideByte mode start ⌝ }
 {
     if mode <= 2 { 0 } else { 8 + start }

@@ -5,8 +5,14 @@ ghost use Prim.Native.Nat.{ℕ, _≤_};
 ghost use Rattle.laws.specs.Within.{within};
 ghost use Rattle.font.specs.Font.{isFont};
 
-// The rows of a font, and the largest row.
-const FONT_ROWS: usize = 1116;
+// The columns and rows of a cell, the cells and rows of a font, and the largest row.
+pub const CELL_COLUMNS: usize = 12;
+
+pub const CELL_ROWS: usize = 18;
+
+pub const FONT_CELLS: usize = 62;
+
+pub const FONT_ROWS: usize = FONT_CELLS * CELL_ROWS;
 
 const MOST_ROW: u16 = 4095;
 

@@ -7,14 +7,8 @@ ghost use Rattle.laws.specs.Said.{accepted, refused};
 ghost use Rattle.hex.specs.Lines.{LF as Hex·LF};
 ghost use Rattle.fontline.specs.Lines.{checked, decimal, lineFor, lineWith, room};
 
-const IMAGE_BYTES: usize = 8192;
-
-const FONT_ROWS: usize = 1116;
-
 // The longest line, `refused K at P` with ten digits each, has 33 bytes.
 const ROOM: usize = 36;
-
-const LF: u8 = 10;
 
 // A line at the back of its bytes, from `start` on; the bytes before it are 0.
 pub struct Line {
@@ -26,8 +20,8 @@ pub struct Line {
 pub fn check(text: &[u8]) -> Line
     ensures { λ r. ⌜ r ≡ lineWith (lineFor (checked (now (text .entry)))) ⌝ }
 {
-    let mut image = [0u8; IMAGE_BYTES];
-    let mut font = [0u16; FONT_ROWS];
+    let mut image = [0u8; image::IMAGE_BYTES];
+    let mut font = [0u16; font::FONT_ROWS];
     let read = answer::read_answer(hex::read(text, &mut image));
     if read.number != 0 {
         return refused_line(read.number, read.place);
@@ -61,7 +55,7 @@ fn ended() -> Line
 {
     let mut bytes = [0u8; ROOM];
     let start = ROOM - 1;
-    bytes[start] = LF;
+    bytes[start] = hex::LF;
     Line { bytes, start }
 }
 

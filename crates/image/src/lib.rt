@@ -12,12 +12,6 @@ const HALF_BYTES: usize = 4096;
 
 const STRIDE: usize = 32;
 
-const FONT_ROWS: usize = FONT_CELLS * CELL_ROWS;
-
-pub const FONT_CELLS: usize = 62;
-
-pub const CELL_ROWS: usize = 18;
-
 pub enum Turned {
     Done,
     // The lengths are not 8,192 bytes and 1,116 rows (0), or a set bit is missing at this address.
@@ -32,14 +26,14 @@ pub fn image_to_font(image: &[u8], font: &mut [u16]) -> Turned
     if image.len() != IMAGE_BYTES {
         return Turned::NotAFont(0);
     }
-    if font.len() != FONT_ROWS {
+    if font.len() != font::FONT_ROWS {
         return Turned::NotAFont(0);
     }
     let lack = first_lack(image);
     if lack < IMAGE_BYTES {
         return Turned::NotAFont(lack as u32);
     }
-    fill(image, font);
+    turn(image, font);
     Turned::Done
 }
 
@@ -64,10 +58,10 @@ fn whole_strides(image: &[u8]) -> usize
 {
     let mut at = 0usize;
     while at < IMAGE_BYTES {
-        if falls_below(image, at, CELL_ROWS, least(at)) {
+        if falls_below(image, at, font::CELL_ROWS, least(at)) {
             return at;
         }
-        if falls_below(image, at + CELL_ROWS, STRIDE - CELL_ROWS, 255) {
+        if falls_below(image, at + font::CELL_ROWS, STRIDE - font::CELL_ROWS, 255) {
             return at;
         }
         at += STRIDE;
@@ -95,10 +89,10 @@ fn falls_below(image: &[u8], from: usize, n: usize, bound: u8) -> bool
 fn least(address: usize) -> u8
     ensures { λ r. ⌜ r ≡ leastAt address ⌝ }
 {
-    if FONT_CELLS <= address % HALF_BYTES / STRIDE {
+    if font::FONT_CELLS <= address % HALF_BYTES / STRIDE {
         return 255;
     }
-    if CELL_ROWS <= address % STRIDE {
+    if font::CELL_ROWS <= address % STRIDE {
         return 255;
     }
     if address < HALF_BYTES {
@@ -107,15 +101,15 @@ fn least(address: usize) -> u8
     240
 }
 
-fn fill(image: &[u8], font: &mut [u16])
+fn turn(image: &[u8], font: &mut [u16])
     requires { ⌜ (length (now image) ≡ imageBytes) × (length (now font) ≡ fontRows) ⌝ }
     ensures { λ _. ⌜ now (font .exit) ≡ fontOf (now (image .entry)) ⌝ }
 {
     let mut cell = 0usize;
-    while cell < FONT_CELLS {
+    while cell < font::FONT_CELLS {
         let mut row = 0usize;
-        while row < CELL_ROWS {
-            font[CELL_ROWS * cell + row] = row_at(image, cell, row);
+        while row < font::CELL_ROWS {
+            font[font::CELL_ROWS * cell + row] = row_at(image, cell, row);
             row += 1;
         }
         cell += 1;

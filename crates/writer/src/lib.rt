@@ -106,7 +106,7 @@ fn put_data(font: &[u16], n: usize, text: &mut [u8], at: usize) -> u8
         × (now (text .exit) ≡ sets (now (text .entry)) at (bytesText (bytesIn (imageOf (now (font .entry))) n))) ⌝ }
 {
     let rows = rows_in(n);
-    let first = image::CELL_ROWS * (n % HALF_RECORDS / 2) + RECORD_BYTES * (n % 2);
+    let first = font::CELL_ROWS * (n % HALF_RECORDS / 2) + RECORD_BYTES * (n % 2);
     let mut sum = 0u8;
     let mut i = 0usize;
     while i < rows {
@@ -127,13 +127,13 @@ fn put_data(font: &[u16], n: usize, text: &mut [u8], at: usize) -> u8
 fn rows_in(n: usize) -> usize
     ensures { λ r. ⌜ r ≡ rowsIn n ⌝ }
 {
-    if image::FONT_CELLS <= n % HALF_RECORDS / 2 {
+    if font::FONT_CELLS <= n % HALF_RECORDS / 2 {
         return 0;
     }
     if n % 2 == 0 {
         return RECORD_BYTES;
     }
-    image::CELL_ROWS - RECORD_BYTES
+    font::CELL_ROWS - RECORD_BYTES
 }
 
 // What record n holds of a row: its low 8 bits, or its high 4 below four set bits.

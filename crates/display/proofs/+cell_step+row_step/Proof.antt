@@ -9,7 +9,7 @@ use native.Mathlib.Omega.{arith}
 use borrow.Author.Needs.{needs}
 use lib.ListN.{length, take, drop}
 use Rattle.laws.proofs.Overlay.{overlay-leaves, overlay-same}
-use Rattle.display.specs.declared.Lines.{Lines}
+use Rattle.units.specs.declared.Lines.{Lines}
 use Rattle.display.specs.declared.Pen.{Pen}
 use Rattle.display.specs.declared.Placed.{Placed}
 use Rattle.display.specs.Cells.{rowPen, goesOn, cellsFrom}

@@ -1,9 +1,8 @@
--- `display::decode`: each return by the tests of the code and of T0; the ranges follow from the remainders.
+-- `display::decode`: each return by the tests of the code and of T0.
 -- Assumes nothing.
 use borrow.Author.Tests.{eq-eqb, ne-eqb}
 use native.Mathlib.Omega.{arith}
-use Prim.Native.Nat.{_/_, _%_}
-use Rattle.display.specs.Words.{kindOf}
+use Rattle.display.specs.Words.{codeOf, spaceCode, kindOf}
 use borrow.Author.Needs.{needs}
 use Rattle.display.proofs.decode.Statement.{statement}
 use Rattle.display.proofs.decode.Tie as tie
@@ -31,21 +30,19 @@ cast-t22 c = search needs
 
 returns : tie.Need-returns
 unfolding kindOf
-returns c = (simp (eq-eqb _ _ (c .before .match .keys1), eq-eqb _ _ (c .if1 .taken)), tt)
+returns c = simp (eq-eqb _ _ (c .before .match .keys1), eq-eqb _ _ (c .if1 .taken))
 
 returns-2 : tie.Need-returns-2
 unfolding kindOf
-returns-2 c = (simp (eq-eqb _ _ (c .before .match .keys1), ne-eqb _ _ (c .if1 .left)), omega arith)
+returns-2 c = simp (eq-eqb _ _ (c .before .match .keys1), ne-eqb _ _ (c .if1 .left))
 
 returns-3 : tie.Need-returns-3
 unfolding kindOf
-returns-3 c =
-    (simp (ne-eqb (c .before .args .word / 16 % 64) 63 (λ e. omega (arith, e, c .match .keys2)), eq-eqb _ _ (c .match .keys2)), (omega arith, (omega arith, omega arith)))
+returns-3 c = simp (ne-eqb (codeOf (c .before .args .word)) spaceCode (λ e. omega (arith, e, c .match .keys2)), eq-eqb _ _ (c .match .keys2))
 
 returns-4 : tie.Need-returns-4
 unfolding kindOf
-returns-4 c =
-    (simp (ne-eqb _ _ (c .match .rest .0 .1), ne-eqb _ _ (c .match .rest .1)), (omega arith, omega (arith, c .match .rest .0 .1, c .match .rest .1)))
+returns-4 c = simp (ne-eqb _ _ (c .match .rest .0 .1), ne-eqb _ _ (c .match .rest .1))
 
 pub decode-spec : {M : Type 1} → statement M
 decode-spec =

@@ -1,4 +1,4 @@
--- `display::draw`: a character's bits and a space's blank bits, stretched over their dots, are what their cells show; the other kinds have no cell.
+-- `display::draw`: a character's bits and a space's bits, none of them set, stretched over their dots, are what their cells show; the other kinds have no cell.
 -- Assumes nothing.
 use mathlib.Core.Path.{refl, sym, ap, _∙_}
 use native.Mathlib.Omega.{arith}
@@ -25,6 +25,9 @@ shown-bits-requires c κs =
 unlit-requires : tie.Need-unlit-requires
 unlit-requires c κs = search needs
 
+cast-stretch : tie.Need-cast-stretch
+cast-stretch c = omega arith
+
 add-stretch : tie.Need-add-stretch
 add-stretch c =
     let h = rw (c .before .before .before .before .kind .given .1) at (c .before .before .before .before .before .before .before .before .before .before .pre .1 .0) in omega (arith, h .0)
@@ -40,6 +43,9 @@ unlit-requires-2 c κs = rw (c .before .kind2 .given .1) at (c .before .before .
 
 stretch-requires-2 : tie.Need-stretch-requires-2
 stretch-requires-2 c κs = search needs
+
+cast-stretch-2 : tie.Need-cast-stretch-2
+cast-stretch-2 c = omega arith
 
 enum-told : tie.Need-enum-told
 enum-told c = search needs
@@ -90,10 +96,12 @@ draw-spec =
     enum-known-kind
     shown-bits-requires
     unlit-requires
+    cast-stretch
     add-stretch
     stretch-requires
     enum-known-kind-2
     unlit-requires-2
+    cast-stretch-2
     stretch-requires-2
     enum-told
     enum-told-2

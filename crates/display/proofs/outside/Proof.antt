@@ -1,5 +1,7 @@
 -- `display::outside`: each return by the test of the mode.
 -- Assumes nothing.
+use Prim.Native.Nat.{_≤_, _<_}
+use native.Mathlib.Omega.{arith}
 use borrow.Author.Tests.{le-leb, lt-leb}
 use borrow.Author.Needs.{needs}
 use Rattle.display.proofs.outside.Statement.{statement}
@@ -9,10 +11,14 @@ add-result : tie.Need-add-result
 add-result c = search needs
 
 returns : tie.Need-returns
-returns c = simp (le-leb _ _ (c .if1 .taken))
+returns c =
+    let plain : c .before .args .mode ≤ 2 = omega arith in
+    simp (le-leb _ _ plain)
 
 returns-2 : tie.Need-returns-2
-returns-2 c = simp (lt-leb _ _ (c .if1 .left))
+returns-2 c =
+    let coloured : 2 < c .before .args .mode = omega arith in
+    simp (lt-leb _ _ coloured)
 
 pub outside-spec : {M : Type 1} → statement M
 outside-spec = tie.close (tie.spec add-result returns returns-2)

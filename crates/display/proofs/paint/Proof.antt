@@ -1,14 +1,11 @@
 -- `display::paint`: what `judged` answers decides; an accepted call's line stands in the part lent on.
 -- Assumes nothing.
-use mathlib.Core.Path.{sym, ap, _∙_}
-use native.Mathlib.Omega.{arith}
+use mathlib.Core.Path.{sym}
 use borrow.Author.Needs.{needs}
 use lib.ListN.{length}
 use lib.Seq.{length-take-le}
-use Rattle.laws.specs.Said.{Said}
-use Rattle.display.specs.Painting.{said}
-use Rattle.display.proofs.Judging.{accepted-by}
-use Rattle.display.proofs.Whole.{not-done, refused-leaves, shown, dark}
+use Rattle.judging.proofs.Accepted.{accepted-done}
+use Rattle.display.proofs.Whole.{refused-leaves, shown, dark}
 use Rattle.display.proofs.paint.Statement.{statement}
 use Rattle.display.proofs.paint.Tie as tie
 
@@ -21,65 +18,20 @@ enum-told c = search needs
 slice-relend-prefix-dots : tie.Need-slice-relend-prefix-dots
 slice-relend-prefix-dots c =
     let a = c .before .before .before .before .before .before .args in
-    let ok = sym (c .before .before .judged .ensures) ∙ ap said (c .enum-told .given .1) in
-    let acc = accepted-by (a .words .now) (a .font .now) (a .settings) (a .line) (a .width) (length (a .out .now)) ok in
+    let acc = accepted-done (a .words .now) (a .font .now) (a .settings) (a .line) (a .width) (length (a .out .now)) _ (c .before .before .judged .ensures) (c .enum-told .given .1) in
     acc .fits
 
 slice-aggregate-dots : tie.Need-slice-aggregate-dots
 slice-aggregate-dots c =
     let a = c .before .before .before .before .before .before .before .args in
-    let ok = sym (c .before .before .before .judged .ensures) ∙ ap said (c .before .enum-told .given .1) in
-    let acc = accepted-by (a .words .now) (a .font .now) (a .settings) (a .line) (a .width) (length (a .out .now)) ok in
+    let acc = accepted-done (a .words .now) (a .font .now) (a .settings) (a .line) (a .width) (length (a .out .now)) _ (c .before .before .before .judged .ensures) (c .before .enum-told .given .1) in
     sym (length-take-le (a .width .0) (a .out .now) (acc .fits))
-
-blink-lit-requires : tie.Need-blink-lit-requires
-blink-lit-requires c κs =
-    let a = c .before .before .before .before .before .before .before .before .args in
-    let ok = sym (c .before .before .before .before .judged .ensures) ∙ ap said (c .before .before .enum-told .given .1) in
-    let acc = accepted-by (a .words .now) (a .font .now) (a .settings) (a .line) (a .width) (length (a .out .now)) ok in
-    (acc .ratio, acc .frequency)
-
-cast-t17 : tie.Need-cast-t17
-cast-t17 c =
-    let a = c .before .before .before .before .before .before .before .before .before .before .args in
-    let ok = sym (c .before .before .before .before .before .before .judged .ensures) ∙ ap said (c .before .before .before .before .enum-told .given .1) in
-    let acc = accepted-by (a .words .now) (a .font .now) (a .settings) (a .line) (a .width) (length (a .out .now)) ok in
-    omega arith
-
-mul-t18 : tie.Need-mul-t18
-mul-t18 c =
-    let a = c .before .before .before .before .before .before .before .before .before .before .args in
-    let ok = sym (c .before .before .before .before .before .before .judged .ensures) ∙ ap said (c .before .before .before .before .enum-told .given .1) in
-    let acc = accepted-by (a .words .now) (a .font .now) (a .settings) (a .line) (a .width) (length (a .out .now)) ok in
-    omega arith
-
-cast-t17-2 : tie.Need-cast-t17-2
-cast-t17-2 c =
-    let a = c .before .before .before .before .before .before .before .before .before .before .before .args in
-    let ok = sym (c .before .before .before .before .before .before .before .judged .ensures) ∙ ap said (c .before .before .before .before .before .enum-told .given .1) in
-    let acc = accepted-by (a .words .now) (a .font .now) (a .settings) (a .line) (a .width) (length (a .out .now)) ok in
-    omega arith
-
-mul-t18-2 : tie.Need-mul-t18-2
-mul-t18-2 c =
-    let a = c .before .before .before .before .before .before .before .before .before .before .before .args in
-    let ok = sym (c .before .before .before .before .before .before .before .judged .ensures) ∙ ap said (c .before .before .before .before .before .enum-told .given .1) in
-    let acc = accepted-by (a .words .now) (a .font .now) (a .settings) (a .line) (a .width) (length (a .out .now)) ok in
-    omega arith
-
-cast-paint-line : tie.Need-cast-paint-line
-cast-paint-line c =
-    let a = c .before .before .before .before .before .before .before .before .before .before .before .before .args in
-    let ok = sym (c .before .before .before .before .before .before .before .before .judged .ensures) ∙ ap said (c .before .before .before .before .before .before .enum-told .given .1) in
-    let acc = accepted-by (a .words .now) (a .font .now) (a .settings) (a .line) (a .width) (length (a .out .now)) ok in
-    omega arith
 
 paint-line-requires : tie.Need-paint-line-requires
 paint-line-requires c κs =
-    let a = c .before .before .before .before .before .before .before .before .before .before .before .before .args in
-    let ok = sym (c .before .before .before .before .before .before .before .before .judged .ensures) ∙ ap said (c .before .before .before .before .before .before .enum-told .given .1) in
-    let acc = accepted-by (a .words .now) (a .font .now) (a .settings) (a .line) (a .width) (length (a .out .now)) ok in
-    (acc .words64, (acc .rows, (omega arith, (omega arith, acc .colour))))
+    let a = c .before .before .before .before .before .before .before .before .args in
+    let acc = accepted-done (a .words .now) (a .font .now) (a .settings) (a .line) (a .width) (length (a .out .now)) _ (c .before .before .before .before .judged .ensures) (c .before .before .enum-told .given .1) in
+    (acc .words64, (acc .rows, record { colour = acc .colour; h = acc .h; v = acc .v; ratio = acc .ratio; frequency = acc .frequency }))
 
 fill-requires : tie.Need-fill-requires
 fill-requires c κs = search needs
@@ -89,13 +41,11 @@ same-length c = search needs
 
 returns : tie.Need-returns
 returns c =
-    let a = c .before .before .before .before .before .before .before .before .before .before .before .before .before .before .before .args in
-    let ok = sym (c .before .before .before .before .before .before .before .before .before .before .before .judged .ensures) ∙ ap said (c .before .before .before .before .before .before .before .before .before .enum-told .given .1) in
-    let acc = accepted-by (a .words .now) (a .font .now) (a .settings) (a .line) (a .width) (length (a .out .now)) ok in (
-      c .before .before .before .before .before .before .before .before .before .before .before .judged .ensures,
-      shown (a .words .now) (a .font .now) (a .settings) (a .frame) (a .line) (a .width) (a .out .now) ok (acc .fits) _ (c .before .before .before .before .before .before .blink-lit .result) (c .before .before .before .before .before .before .before .if1 .taken)
-          (c .before .before .before .before .before .before .blink-lit .ensures) (c .before .before .paint-line .ensures),
-    )
+    let a = c .before .before .before .before .before .before .before .before .before .before .before .args in
+    let e = c .before .before .before .before .before .before .before .judged .ensures in
+    let done = c .before .before .before .before .before .enum-told .given .1 in
+    let acc = accepted-done (a .words .now) (a .font .now) (a .settings) (a .line) (a .width) (length (a .out .now)) _ e done in
+    (e, shown (a .words .now) (a .font .now) (a .settings) (a .frame) (a .line) (a .width) (a .out .now) _ e done (acc .fits) _ (c .before .before .before .if1 .taken) (c .before .before .paint-line .ensures))
 
 same-length-2 : tie.Need-same-length-2
 same-length-2 c = search needs
@@ -103,17 +53,16 @@ same-length-2 c = search needs
 returns-2 : tie.Need-returns-2
 returns-2 c =
     let a = c .before .before .before .before .before .before .before .before .before .before .before .args in
-    let ok = sym (c .before .before .before .before .before .before .before .judged .ensures) ∙ ap said (c .before .before .before .before .before .enum-told .given .1) in
-    let acc = accepted-by (a .words .now) (a .font .now) (a .settings) (a .line) (a .width) (length (a .out .now)) ok in (
-      c .before .before .before .before .before .before .before .judged .ensures,
-      dark (a .words .now) (a .font .now) (a .settings) (a .frame) (a .line) (a .width) (a .out .now) ok (acc .fits) _ (c .before .before .before .if1 .left) (c .before .before .fill .ensures),
-    )
+    let e = c .before .before .before .before .before .before .before .judged .ensures in
+    let done = c .before .before .before .before .before .enum-told .given .1 in
+    let acc = accepted-done (a .words .now) (a .font .now) (a .settings) (a .line) (a .width) (length (a .out .now)) _ e done in
+    (e, dark (a .words .now) (a .font .now) (a .settings) (a .frame) (a .line) (a .width) (a .out .now) _ e done (acc .fits) _ (c .before .before .before .if1 .left) (c .before .before .fill .ensures))
 
 returns-3 : tie.Need-returns-3
 returns-3 c =
     let a = c .before .before .before .before .before .args in
     let e = c .before .judged .ensures in
-    (e, refused-leaves (a .words .now) (a .font .now) (a .settings) (a .frame) (a .line) (a .width) (a .out .now) (λ z. not-done (c .before .judged .result) (c .match .keys2) (ap (λ (w : Said). w .number) e ∙ z)))
+    (e, refused-leaves (a .words .now) (a .font .now) (a .settings) (a .frame) (a .line) (a .width) (a .out .now) (c .before .judged .result) e (c .match .keys2))
 
 pub paint-spec : {M : Type 1} → statement M
 paint-spec =
@@ -123,12 +72,6 @@ paint-spec =
     enum-told
     slice-relend-prefix-dots
     slice-aggregate-dots
-    blink-lit-requires
-    cast-t17
-    mul-t18
-    cast-t17-2
-    mul-t18-2
-    cast-paint-line
     paint-line-requires
     fill-requires
     same-length

@@ -2,19 +2,30 @@
 -- Assumes nothing.
 use mathlib.Core.Path.{ap, _∙_}
 use Prim.Native.Nat.{ℕ}
-use mathlib.Core.List.{List}
 use native.Mathlib.Omega.{arith}
 use lib.ListN.{length, replicate}
-use Rattle.laws.specs.Lines.{overlay}
-use Rattle.laws.proofs.Overlay.{overlay-filled}
-use Rattle.laws.proofs.Lists.{tabulate-same}
-use Rattle.display.specs.Cells.{rowPen, cells}
-use Rattle.display.specs.Picture.{outsideByte, dotAt}
-use Rattle.display.specs.Steps.{painted}
-use Rattle.display.proofs.Join.{joined}
+use Rattle.display.proofs.Whole.{on-line}
 use borrow.Author.Needs.{needs}
 use Rattle.display.proofs.paint_line.Statement.{statement}
 use Rattle.display.proofs.paint_line.Tie as tie
+
+blink-lit-requires : tie.Need-blink-lit-requires
+blink-lit-requires c κs = search needs
+
+cast-t11 : tie.Need-cast-t11
+cast-t11 c = search needs
+
+mul-t12 : tie.Need-mul-t12
+mul-t12 c = search needs
+
+cast-t11-2 : tie.Need-cast-t11-2
+cast-t11-2 c = search needs
+
+mul-t12-2 : tie.Need-mul-t12-2
+mul-t12-2 c = search needs
+
+cast-start : tie.Need-cast-start
+cast-start c = search needs
 
 outside-requires : tie.Need-outside-requires
 outside-requires c κs = search needs
@@ -24,23 +35,31 @@ fill-requires c κs = search needs
 
 row-step-requires : tie.Need-row-step-requires
 row-step-requires c κs =
-    let s = c .before .before .before .before .before .before .before .before .before in
+    let s = c .before .before .before .before .before .before .before .before .before .before .before .before .before in
     (s .pre .1 .0, record { start = omega arith; right = omega arith; down = omega arith; some = omega arith; size = omega arith; colour = omega arith })
 
 same-length : tie.Need-same-length
 same-length c = search needs
 
 returns : tie.Need-returns
-unfolding dotAt
 returns c =
-    let a = c .before .before .before .before .before .before .before .before .before .before .before .before .args in
-    let f = painted (a .font .now) (a .view) (cells (a .view .left) (a .top) (a .start) (a .words .now)) in
-    let n = length (a .out .now) in
-    c .before .before .row-step .ensures
-    ∙ ap (λ (t : List ℕ). overlay f t) (c .before .before .before .before .before .before .fill .ensures ∙ ap (λ (b : ℕ). replicate n b) (c .before .before .before .before .before .before .before .outside .ensures))
-    ∙ overlay-filled f (outsideByte (a .view .mode) (a .start)) n
-    ∙ tabulate-same n _ _ (λ k lt. joined (a .view) (a .view .left) k (a .font .now) (a .words .now) (rowPen (a .view .left) (a .top) 1 (a .start)) (outsideByte (a .view .mode) (a .start)))
+    let a = c .before .before .before .before .before .before .before .before .before .before .before .before .before .before .before .before .args in
+    let blink = c .before .before .before .before .before .before .before .before .before .before .before .before .blink-lit in
+    let filled = c .before .before .before .before .before .before .fill .ensures ∙ ap (λ (b : ℕ). replicate (length (a .out .now)) b) (c .before .before .before .before .before .before .before .outside .ensures) in
+    on-line (a .words .now) (a .font .now) (a .settings) (a .frame) (a .line) (blink .result) (length (a .out .now)) _ _ (blink .ensures) filled (c .before .before .row-step .ensures)
 
 pub paint-line-spec : {M : Type 1} → statement M
 paint-line-spec =
-    tie.close (tie.spec outside-requires fill-requires row-step-requires same-length returns)
+    tie.close
+    (tie.spec
+    blink-lit-requires
+    cast-t11
+    mul-t12
+    cast-t11-2
+    mul-t12-2
+    cast-start
+    outside-requires
+    fill-requires
+    row-step-requires
+    same-length
+    returns)

@@ -7,6 +7,7 @@ use borrow.Author.Needs.{needs}
 use lib.ListN.{length, drop}
 use Rattle.display.specs.Steps.{rowEnd}
 use Rattle.display.proofs.Rows.{laterBy, later-none, end-over, end-step, end-goes}
+use Rattle.display.proofs.Sound.{sound}
 use Rattle.display.proofs.row_end.Statement.{statement}
 use Rattle.display.proofs.row_end.Tie as tie
 
@@ -38,7 +39,7 @@ returns : tie.Need-returns Inv-loop μ-loop
 returns c =
     let a = c .before .before .before .before .before .before .before .args in
     let l = c .before .before .before .before .before .loop in
-    (sym (end-step (a .words .now) (l .i) (l .back) _ (omega arith) (sym (c .before .before .decode .ensures .0) ∙ c .enum-told .given .1)) ∙ l .inv .1, tt)
+    (sym (end-step (a .words .now) (l .i) (l .back) _ (omega arith) (sym (c .before .before .decode .ensures) ∙ c .enum-told .given .1)) ∙ l .inv .1, tt)
 
 enum-known-kind : tie.Need-enum-known-kind Inv-loop μ-loop
 enum-known-kind c = search needs
@@ -48,8 +49,8 @@ returns-2 c =
     let a = c .before .before .before .before .before .before .before .before .args in
     let l = c .before .before .before .before .before .before .loop in
     let told = c .before .kind .given .1 in
-    let h = rw told at (c .before .before .before .decode .ensures .1) in
-    (sym (end-step (a .words .now) (l .i) (l .back) _ (omega arith) (sym (c .before .before .before .decode .ensures .0) ∙ told)) ∙ l .inv .1, ((omega arith, omega arith), ((h .0, h .1 .0), (h .1 .1, l .inv .0 .1))))
+    let h = rw told at (sound _ _ (c .before .before .before .decode .ensures)) in
+    (sym (end-step (a .words .now) (l .i) (l .back) _ (omega arith) (sym (c .before .before .before .decode .ensures) ∙ told)) ∙ l .inv .1, ((omega arith, omega arith), ((h .0, h .1 .0), (h .1 .1, l .inv .0 .1))))
 
 enum-known-kind-2 : tie.Need-enum-known-kind-2 Inv-loop μ-loop
 enum-known-kind-2 c = search needs
@@ -62,7 +63,7 @@ loop-again c =
     let a = c .before .before .before .before .before .before .before .before .args in
     let l = c .before .before .before .before .before .before .loop in
     let told = c .before .kind2 .given .1 in
-    ((omega arith, rw told at (c .before .before .before .decode .ensures .1)), end-goes (a .words .now) (l .i) (l .back) _ _ (omega arith) (sym (c .before .before .before .decode .ensures .0) ∙ told) refl ∙ l .inv .1)
+    ((omega arith, rw told at (sound _ _ (c .before .before .before .decode .ensures))), end-goes (a .words .now) (l .i) (l .back) _ _ (omega arith) (sym (c .before .before .before .decode .ensures) ∙ told) refl ∙ l .inv .1)
 
 enum-told-2 : tie.Need-enum-told-2 Inv-loop μ-loop
 enum-told-2 c = search needs
@@ -74,7 +75,7 @@ loop-again-2 : tie.Need-loop-again-2 Inv-loop μ-loop
 loop-again-2 c =
     let a = c .before .before .before .before .before .before .before .args in
     let l = c .before .before .before .before .before .loop in
-    ((omega arith, l .inv .0 .1), end-goes (a .words .now) (l .i) (l .back) _ (l .back) (omega arith) (sym (c .before .before .decode .ensures .0) ∙ c .enum-told2 .given .1) refl ∙ l .inv .1)
+    ((omega arith, l .inv .0 .1), end-goes (a .words .now) (l .i) (l .back) _ (l .back) (omega arith) (sym (c .before .before .decode .ensures) ∙ c .enum-told2 .given .1) refl ∙ l .inv .1)
 
 returns-3 : tie.Need-returns-3 Inv-loop μ-loop
 returns-3 c =

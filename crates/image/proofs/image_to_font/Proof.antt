@@ -34,8 +34,8 @@ returns-3 c = let a = c .before .before .before .before .before .before .args in
     let l = ap (λ n. ltb n 8192) (sym g) ∙ lt-ltb _ _ (c .if3 .taken) in
     (simp (e, f, l, ← g), simp (e, f, l))
 
-fill-requires : tie.Need-fill-requires
-fill-requires c κs = search needs
+turn-requires : tie.Need-turn-requires
+turn-requires c κs = search needs
 
 same-length : tie.Need-same-length
 same-length c = search needs
@@ -45,7 +45,7 @@ unfolding answerOf leftOf
 returns-4 c = let a = c .before .before .before .before .before .before .before .before .before .before .args in
     let e = eq-eqb (length (a .image .now)) 8192 (omega arith) in let f = eq-eqb (length (a .font .now)) 1116 (omega arith) in
     let l = ap (λ n. ltb n 8192) (sym (c .before .before .before .before .before .first-lack .ensures)) ∙ le-ltb _ _ (c .before .before .before .before .if3 .left) in
-    (simp (e, f, l), c .before .before .fill .ensures ∙ simp (e, f, l))
+    (simp (e, f, l), c .before .before .turn .ensures ∙ simp (e, f, l))
 
 pub image-to-font-spec : {M : Type 1} → statement M
 image-to-font-spec =
@@ -56,6 +56,6 @@ image-to-font-spec =
     first-lack-requires
     cast-t6
     returns-3
-    fill-requires
+    turn-requires
     same-length
     returns-4)

@@ -1,7 +1,7 @@
 -- In each arm the struct tells what is said of the case that was met.
 -- Assumes nothing.
 use mathlib.Core.Path.{sym, _∙_, ap}
-use Rattle.display.specs.Painting.{said}
+use Rattle.judging.specs.Judging.{said}
 use borrow.Author.Needs.{needs}
 use Rattle.dirgeflint.proofs.display_face.painted_answer.Statement.{statement}
 use Rattle.dirgeflint.proofs.display_face.painted_answer.Tie as tie

@@ -1,0 +1,31 @@
+-- What a word decodes to is in range: its parts are remainders.
+-- Assumes nothing.
+use mathlib.Core.Path.{_≡_, refl, sym, subst}
+use mathlib.Core.Bool.{Bool, true, false}
+use Prim.Native.Nat.{ℕ}
+use native.Mathlib.Omega.{arith}
+use borrow.Author.Tests.{eqb-false}
+use lib.Dec.{eqb}
+use Rattle.laws.specs.Pick.{pick}
+use Rattle.display.specs.declared.Kind.{Kind}
+use Rattle.display.specs.declared.Kind.the-variants.{Character, Space, Return, End}
+use Rattle.display.specs.Words.{codeOf, returnCode, spaceCode, colourOf, markOf, sizeOf, spacingOf, kindOf}
+use Rattle.display.specs.Steps.{Sound}
+
+sound-space : (w : ℕ) (end : Bool) → Sound (pick end End (Space (colourOf w)))
+sound-space w true = tt
+sound-space w false = omega arith
+
+sound-other : (w : ℕ) (back : Bool) → eqb (codeOf w) returnCode ≡ back → eqb (codeOf w) spaceCode ≡ false
+    → Sound (pick back (Return (sizeOf w) (record { 0 = spacingOf w })) (Character (colourOf w) (codeOf w) (markOf w)))
+sound-other w true e f = (omega arith, (omega arith, omega arith))
+sound-other w false e f = (omega arith, omega (arith, eqb-false (codeOf w) returnCode e, eqb-false (codeOf w) spaceCode f))
+
+sound-code : (w : ℕ) (none : Bool) → eqb (codeOf w) spaceCode ≡ none
+    → Sound (pick none (pick (markOf w) End (Space (colourOf w))) (pick (eqb (codeOf w) returnCode) (Return (sizeOf w) (record { 0 = spacingOf w })) (Character (colourOf w) (codeOf w) (markOf w))))
+sound-code w true e = sound-space w (markOf w)
+sound-code w false e = sound-other w (eqb (codeOf w) returnCode) refl e
+
+pub sound : (w : ℕ) (kd : Kind) → kd ≡ kindOf w → Sound kd
+unfolding kindOf
+sound w kd e = subst Sound (sym e) (sound-code w (eqb (codeOf w) spaceCode) refl)

@@ -1,0 +1,103 @@
+-- The tests of the settings, what the tests of an accepted call show, and that no refusal has number 0.
+-- Assumes nothing.
+use mathlib.Core.Path.{_≡_, refl, sym, ap, _∙_}
+use mathlib.Core.Bool.{Bool, true, false, not}
+use mathlib.Core.List.{List, [], _∷_}
+use mathlib.Core.Logic.{⊎-elim}
+use Prim.Native.Nat.{ℕ, suc, _<_, _≤_}
+use native.Mathlib.Omega.{arith}
+use types.Run.{OneOf}
+use denote.Enum.Declared.{tagOf}
+use borrow.Author.Tests.{le-leb, lt-leb, leb-true, ltb-false, eqb-true, eqb-false, not-false}
+use lib.Dec.{leb, ltb, eqb}
+use lib.ListN.{length}
+use Rattle.laws.specs.Pick.{pick}
+use Rattle.laws.specs.Said.{Said, accepted, refused}
+use Rattle.laws.proofs.Both.{both-parts, both-none}
+use Rattle.font.specs.Font.{fontRows, isFont}
+use Rattle.units.specs.declared.Dots.{Dots}
+use Rattle.units.specs.declared.Lines.{Lines}
+use Rattle.judging.specs.declared.Settings.{Settings}
+use Rattle.judging.specs.declared.Painted.{Painted}
+use Rattle.judging.specs.declared.Painted.the-variants.{Done, BadSetting, ReservedRatio, BadWords, BadFont, OffScreen, NoRoom}
+use Rattle.judging.specs.Judging.{wordCount, inRange, areWords, onScreen, answerOf, said}
+use Rattle.judging.proofs.Painted.{the-type}
+
+module _ (s : Settings) where
+  pub bad-mode : 3 < s .mode → inRange s ≡ false
+  bad-mode h = simp (lt-leb (s .mode) 3 h)
+
+  pub bad-colour : 7 < s .colour → inRange s ≡ false
+  bad-colour h = simp (lt-leb (s .colour) 7 h, both-none)
+
+  pub bad-h : 63 < s .h → inRange s ≡ false
+  bad-h h = simp (lt-leb (s .h) 63 h, both-none)
+
+  pub bad-v : 63 < s .v → inRange s ≡ false
+  bad-v h = simp (lt-leb (s .v) 63 h, both-none)
+
+  pub bad-ratio : 3 < s .ratio → inRange s ≡ false
+  bad-ratio h = simp (lt-leb (s .ratio) 3 h, both-none)
+
+  pub last-test : s .mode ≤ 3 → s .colour ≤ 7 → s .h ≤ 63 → s .v ≤ 63 → s .ratio ≤ 3 → leb (s .frequency) 3 ≡ inRange s
+  last-test a b c d e = simp (le-leb (s .mode) 3 a, le-leb (s .colour) 7 b, le-leb (s .h) 63 c, le-leb (s .v) 63 d, le-leb (s .ratio) 3 e)
+
+-- what an accepted call's arguments are
+pub record Accepted (words font : List ℕ) (s : Settings) (width : Dots) (room : ℕ) : Type 0 where
+  pub colour : s .colour ≤ 7
+  pub h : s .h ≤ 63
+  pub v : s .v ≤ 63
+  pub ratio : s .ratio ≤ 2
+  pub frequency : s .frequency ≤ 3
+  pub words64 : length words ≡ wordCount
+  pub rows : length font ≡ fontRows
+  pub fits : width .0 ≤ room
+
+-- an answer that accepts was not refused by the first test
+peel : (t : Bool) (k : ℕ) (rest : Said) → pick t (refused (suc k) 0) rest ≡ accepted 0 → (t ≡ false) × (rest ≡ accepted 0)
+peel true k rest e = let z = ap (λ (a : Said). a .number) e in absurd (omega arith)
+peel false k rest e = (refl, e)
+
+accepted-by : (words font : List ℕ) (s : Settings) (line : Lines) (width : Dots) (room : ℕ) → answerOf words font s line width room ≡ accepted 0 → Accepted words font s width room
+unfolding answerOf isFont
+accepted-by words font s line width room e =
+    let p1 = peel (not (inRange s)) 0 _ e in
+    let p2 = peel (eqb (s .ratio) 3) 1 _ (p1 .1) in
+    let p3 = peel (not (areWords words)) 2 _ (p2 .1) in
+    let p4 = peel (not (isFont font)) 3 _ (p3 .1) in
+    let p5 = peel (not (onScreen line width)) 4 _ (p4 .1) in
+    let p6 = peel (ltb room (width .0)) 5 _ (p5 .1) in
+    let mode = both-parts (leb (s .mode) 3) _ (not-false (inRange s) (p1 .0)) in
+    let colour = both-parts (leb (s .colour) 7) _ (mode .1) in
+    let h = both-parts (leb (s .h) 63) _ (colour .1) in
+    let v = both-parts (leb (s .v) 63) _ (h .1) in
+    let ratio = both-parts (leb (s .ratio) 3) _ (v .1) in
+    let three = leb-true (s .ratio) 3 (ratio .0) in
+    record {
+      colour = leb-true (s .colour) 7 (colour .0);
+      h = leb-true (s .h) 63 (h .0);
+      v = leb-true (s .v) 63 (v .0);
+      ratio = omega (arith, eqb-false (s .ratio) 3 (p2 .0));
+      frequency = leb-true (s .frequency) 3 (ratio .1);
+      words64 = eqb-true (length words) wordCount (both-parts (eqb (length words) wordCount) _ (not-false (areWords words) (p3 .0)) .0);
+      rows = eqb-true (length font) fontRows (both-parts (eqb (length font) fontRows) _ (not-false (isFont font) (p4 .0)) .0);
+      fits = ltb-false room (width .0) (p6 .0);
+    }
+
+-- the answer Done
+pub done-is : (r : Painted) (a : Said) → said r ≡ a → r ≡ Done → a ≡ accepted 0
+done-is r a e d = sym e ∙ ap said d
+
+pub accepted-done : (words font : List ℕ) (s : Settings) (line : Lines) (width : Dots) (room : ℕ) (r : Painted) → said r ≡ answerOf words font s line width room → r ≡ Done
+    → Accepted words font s width room
+accepted-done words font s line width room r e d = accepted-by words font s line width room (done-is r _ e d)
+
+-- any other case than Done has another number than 0
+pub not-done : (r : Painted) → OneOf (1 ∷ 2 ∷ 3 ∷ 4 ∷ 5 ∷ 6 ∷ []) (tagOf the-type r) → said r .number ≡ 0 → ⊥
+not-done Done w e = ⊎-elim (λ z. omega arith) (⊎-elim (λ z. omega arith) (⊎-elim (λ z. omega arith) (⊎-elim (λ z. omega arith) (⊎-elim (λ z. omega arith) (λ z. omega arith))))) w
+not-done BadSetting w e = omega arith
+not-done ReservedRatio w e = omega arith
+not-done BadWords w e = omega arith
+not-done BadFont w e = omega arith
+not-done OffScreen w e = omega arith
+not-done NoRoom w e = omega arith

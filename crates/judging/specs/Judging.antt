@@ -1,0 +1,65 @@
+-- What a paint call is refused for: document 01, 'Numbers for bad input', 1 to 6.
+-- Assumes nothing.
+use Prim.Native.Nat.{ℕ}
+use mathlib.Core.List.{List}
+use mathlib.Core.Bool.{Bool, not}
+use lib.Dec.{leb, ltb, eqb}
+use lib.ListN.{length}
+use Rattle.laws.specs.Pick.{pick, both}
+use Rattle.laws.specs.Said.{Said, accepted, refused}
+use Rattle.laws.specs.Within.{within}
+use Rattle.font.specs.Font.{isFont}
+use Rattle.units.specs.declared.Dots.{Dots}
+use Rattle.units.specs.declared.Lines.{Lines}
+use Rattle.judging.specs.declared.Settings.{Settings}
+use Rattle.judging.specs.declared.Painted.{Painted}
+use Rattle.judging.specs.declared.Painted.the-variants.{Done, BadSetting, ReservedRatio, BadWords, BadFont, OffScreen, NoRoom}
+
+-- the words of a screen, the largest word, line and width
+abbrev pub wordCount : ℕ
+wordCount = 64
+
+abbrev pub mostWord : ℕ
+mostWord = 1023
+
+abbrev pub mostLine : ℕ
+mostLine = 1023
+
+abbrev pub mostWidth : ℕ
+mostWidth = 1024
+
+-- what the table asks of each argument
+abbrev pub inRange : Settings → Bool
+inRange s =
+    both (leb (s .mode) 3) (both (leb (s .colour) 7) (both (leb (s .h) 63) (both (leb (s .v) 63) (both (leb (s .ratio) 3) (leb (s .frequency) 3)))))
+
+abbrev pub areWords : List ℕ → Bool
+areWords words = both (eqb (length words) wordCount) (within mostWord words)
+
+abbrev pub onScreen : Lines → Dots → Bool
+onScreen line width = both (leb (line .0) mostLine) (leb (width .0) mostWidth)
+
+-- what the call answers: the first number that applies, whatever the display's switch says
+unfoldable pub answerOf : List ℕ → List ℕ → Settings → Lines → Dots → ℕ → Said
+answerOf words font s line width room =
+    pick (not (inRange s))
+    (refused 1 0)
+    (pick (eqb (s .ratio) 3)
+    (refused 2 0)
+    (pick (not (areWords words))
+    (refused 3 0)
+    (pick (not (isFont font))
+    (refused 4 0)
+    (pick (not (onScreen line width))
+    (refused 5 0)
+    (pick (ltb room (width .0)) (refused 6 0) (accepted 0))))))
+
+-- document 01's number for each case
+abbrev pub said : Painted → Said
+said Done = accepted 0
+said BadSetting = refused 1 0
+said ReservedRatio = refused 2 0
+said BadWords = refused 3 0
+said BadFont = refused 4 0
+said OffScreen = refused 5 0
+said NoRoom = refused 6 0

@@ -1,0 +1,2 @@
+mod Dots
+pub mod Unique
