@@ -12,7 +12,7 @@ use Rattle.laws.specs.Lines.{firstShown, holders}
 use Rattle.laws.specs.Lists.{tabulate}
 use lib.ListN.{take, getD}
 use Rattle.laws.proofs.Lists.{tabulate-same, getD-tabulate, tabulate-cut}
-use Rattle.laws.proofs.Holders.{first-none}
+use Rattle.laws.proofs.Holders.{first-of-none}
 use Rattle.laws.proofs.Placing.{cell-has, cell-below, cell-beside, share-below}
 use Rattle.font.specs.Font.{rowOf}
 use Rattle.units.specs.declared.Dots.{Dots}
@@ -127,6 +127,6 @@ pub outside-left-above : (words font : List ℕ) (s : Settings) (frame : ℕ) (l
     → dotAt font (viewOf s frame line) (s .colour) (screenOf words s) k ≡ outsideByte (s .mode) (s .colour)
 unfolding dotAt Before
 outside-left-above words font s frame line k b =
-    first-none (has (viewOf s frame line) k) (cellDot font (viewOf s frame line) k) (screenOf words s) (outsideByte (s .mode) (s .colour))
+    first-of-none (has (viewOf s frame line) k) (cellDot font (viewOf s frame line) k) (screenOf words s) (outsideByte (s .mode) (s .colour))
     (before (viewOf s frame line) (record { 0 = 4 * s .h }) k words (rowPen (record { 0 = 4 * s .h }) (record { 0 = 4 * s .v }) 1 (s .colour))
     (⊎-elim (λ h. inl (h, omega arith)) (λ h. inr h) b))

@@ -8,7 +8,7 @@ use Prim.Native.Nat.{ℕ, _+_, _≤_}
 use native.Mathlib.Omega.{arith}
 use Rattle.laws.specs.Pick.{pick}
 use Rattle.laws.specs.Lines.{firstShown, holders}
-use Rattle.laws.proofs.Holders.{last-none, last-first}
+use Rattle.laws.proofs.Holders.{last-of-none, last-first}
 use Rattle.laws.proofs.Placing.{Past, past-none, past-cell, past-right, past-below}
 use Rattle.units.specs.declared.Dots.{Dots}
 use Rattle.display.specs.declared.View.{View}
@@ -72,4 +72,4 @@ module _ (v : View) (left : Dots) (k : ℕ) where
 
   -- past the pen nothing is painted
   pub quiet : (font ws : List ℕ) (p : Pen) (old : ℕ) → PenPast p → painted font v (cellsFrom left ws p) k old ≡ old
-  quiet font ws p old h = last-none (has v k) (cellDot font v k) (cellsFrom left ws p) old (none-past ws p h)
+  quiet font ws p old h = last-of-none (has v k) (cellDot font v k) (cellsFrom left ws p) old (none-past ws p h)

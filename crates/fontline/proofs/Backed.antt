@@ -20,7 +20,7 @@ pub line-start : (line : Line) (l : List ℕ) → line ≡ lineWith l → line .
 unfolding lineWith
 line-start line l e = ap (λ (x : Line). x .start) e
 
-pub line-bytes : (line : Line) (l : List ℕ) → line ≡ lineWith l → line .bytes ≡ replicate (room - length l) 0 ++ l
+line-bytes : (line : Line) (l : List ℕ) → line ≡ lineWith l → line .bytes ≡ replicate (room - length l) 0 ++ l
 unfolding lineWith
 line-bytes line l e = ap (λ (x : Line). x .bytes) e
 

@@ -10,19 +10,19 @@ use Rattle.laws.specs.Lines.{firstShown, lastShown, holders}
 
 module _ {A : Type 0} (has : A → Bool) (shows : A → ℕ) where
   -- none has the place
-  pub last-none : (cs : List A) (old : ℕ) → holders has cs ≡ 0 → lastShown has shows cs old ≡ old
+  pub last-of-none : (cs : List A) (old : ℕ) → holders has cs ≡ 0 → lastShown has shows cs old ≡ old
   unfolding lastShown holders
-  last-none [] old e = refl
-  last-none (c ∷ cs) old e = go (has c) (last-none cs old) e
+  last-of-none [] old e = refl
+  last-of-none (c ∷ cs) old e = go (has c) (last-of-none cs old) e
     where
       go : (t : Bool) → (holders has cs ≡ 0 → lastShown has shows cs old ≡ old) → pick t 1 0 + holders has cs ≡ 0 → lastShown has shows cs (pick t (shows c) old) ≡ old
       go true rest e = absurd (omega arith)
       go false rest e = rest (omega arith)
 
-  pub first-none : (cs : List A) (other : ℕ) → holders has cs ≡ 0 → firstShown has shows cs other ≡ other
+  pub first-of-none : (cs : List A) (other : ℕ) → holders has cs ≡ 0 → firstShown has shows cs other ≡ other
   unfolding firstShown holders
-  first-none [] other e = refl
-  first-none (c ∷ cs) other e = go (has c) (first-none cs other) e
+  first-of-none [] other e = refl
+  first-of-none (c ∷ cs) other e = go (has c) (first-of-none cs other) e
     where
       go : (t : Bool) → (holders has cs ≡ 0 → firstShown has shows cs other ≡ other) → pick t 1 0 + holders has cs ≡ 0 → pick t (shows c) (firstShown has shows cs other) ≡ other
       go true rest e = absurd (omega arith)
@@ -31,7 +31,7 @@ module _ {A : Type 0} (has : A → Bool) (shows : A → ℕ) where
   pub last-first : (cs : List A) (old : ℕ) → holders has cs ≤ 1 → lastShown has shows cs old ≡ firstShown has shows cs old
   unfolding lastShown firstShown holders
   last-first [] old le = refl
-  last-first (c ∷ cs) old le = go (has c) (last-none cs (shows c)) (last-first cs old) le
+  last-first (c ∷ cs) old le = go (has c) (last-of-none cs (shows c)) (last-first cs old) le
     where
       go : (t : Bool) → (holders has cs ≡ 0 → lastShown has shows cs (shows c) ≡ shows c) → (holders has cs ≤ 1 → lastShown has shows cs old ≡ firstShown has shows cs old)
           → pick t 1 0 + holders has cs ≤ 1 → lastShown has shows cs (pick t (shows c) old) ≡ pick t (shows c) (firstShown has shows cs old)

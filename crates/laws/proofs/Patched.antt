@@ -14,11 +14,11 @@ module _ (x : ℕ) (shows : ℕ → ℕ) where
   unfolding patched
   patched-out n k a le = simp (span-after x n k le)
 
-  pub patched-in : (n k a : ℕ) → x ≤ k → k < x + n → patched x n shows k a ≡ shows (k - x)
+  patched-in : (n k a : ℕ) → x ≤ k → k < x + n → patched x n shows k a ≡ shows (k - x)
   unfolding patched
   patched-in n k a le lt = simp (span-in x n k le lt)
 
-  pub patched-before : (n k a : ℕ) → k < x → patched x n shows k a ≡ a
+  patched-before : (n k a : ℕ) → k < x → patched x n shows k a ≡ a
   unfolding patched
   patched-before n k a lt = simp (span-before x n k lt)
 

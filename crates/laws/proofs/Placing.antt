@@ -1,15 +1,14 @@
 -- Cells placed one after the other never share a dot, for any width and height. Once a cell has been passed, the place where the next
 -- one stands is past each of its dots: to the right in the same row, or in a row below; and it stays past them.
 -- Assumes nothing.
-use mathlib.Core.Path.{_≡_, refl}
-use mathlib.Core.Bool.{Bool, true, false}
+use mathlib.Core.Path.{_≡_}
+use mathlib.Core.Bool.{true, false}
 use mathlib.Core.Logic.{_⊎_, inl, inr, ⊎-elim}
 use Prim.Native.Nat.{ℕ, _+_, _*_, _/_, _-_, _<_, _≤_}
 use native.Mathlib.Nat.{div-lt-iff-lt-mul, div-eq-of-lt-le}
 use native.Mathlib.Omega.{arith}
 use borrow.Author.Tests.{leb-true, le-leb, lt-leb, lt-ltb, le-ltb, ltb-true}
 use lib.Dec.{leb, ltb}
-use Rattle.laws.specs.Pick.{both}
 use Rattle.laws.specs.Placing.{rowHas, spanHas, cellHas}
 use Rattle.laws.proofs.Both.{both-parts, none-left, none-right}
 use Rattle.laws.proofs.Scan.{split}

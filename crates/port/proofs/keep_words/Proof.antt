@@ -1,6 +1,6 @@
 -- `port::keep_words`. The loop's invariant: the words passed are cut to their kept bits, the others are as they were.
 -- Assumes nothing.
-use Prim.Native.Nat.{_+_, _≤_, _-_}
+use Prim.Native.Nat.{_≤_, _-_}
 use mathlib.Core.Path.{refl, ap}
 use native.Mathlib.Omega.{arith}
 use lib.ListN.{length, getD}
