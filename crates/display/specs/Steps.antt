@@ -9,6 +9,7 @@ use Rattle.laws.specs.Lines.{lastShown}
 use Rattle.font.specs.Font.{fontCells, cellRows, cellColumns, rowOf}
 use Rattle.units.specs.declared.Lines.{Lines}
 use Rattle.judging.specs.declared.Settings.{Settings}
+use Rattle.judging.specs.Judging.{mostColour, mostPlace, mostFrequency}
 use Rattle.display.specs.declared.Pen.{Pen}
 use Rattle.display.specs.declared.View.{View}
 use Rattle.display.specs.declared.Kind.{Kind}
@@ -44,10 +45,7 @@ unfoldable pub rowEnd : List ℕ → ℕ → RowEnd
 rowEnd [] back = Over
 rowEnd (w ∷ ws) back = endAt (kindOf w) back (λ b. rowEnd ws b)
 
--- the largest colour, size of a row, and spacing; and a place that no word reaches
-abbrev pub mostColour : ℕ
-mostColour = 7
-
+-- the largest size of a row, and spacing; and a place that no word reaches
 abbrev pub mostSize : ℕ
 mostSize = 4
 
@@ -72,10 +70,10 @@ EndSound n (Next read size spacing background) = ((1 ≤ read) × (read ≤ n)) 
 -- settings that the painter's arithmetic takes
 pub record Usable (s : Settings) : Type 0 where
   pub colour : s .colour ≤ mostColour
-  pub h : s .h ≤ 63
-  pub v : s .v ≤ 63
+  pub h : s .h ≤ mostPlace
+  pub v : s .v ≤ mostPlace
   pub ratio : s .ratio ≤ 2
-  pub frequency : s .frequency ≤ 3
+  pub frequency : s .frequency ≤ mostFrequency
 
 -- room for n more words at the pen: a word goes right by a cell of the largest size at most, and down by such a row and the largest spacing
 pub record Room (v : View) (p : Pen) (n : ℕ) : Type 0 where

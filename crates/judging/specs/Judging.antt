@@ -28,10 +28,30 @@ mostLine = 1023
 abbrev pub mostWidth : ℕ
 mostWidth = 1024
 
+-- the largest mode and colour, h or v, ratio and frequency; the largest ratio is reserved
+abbrev pub mostMode : ℕ
+mostMode = 3
+
+abbrev pub mostColour : ℕ
+mostColour = 7
+
+abbrev pub mostPlace : ℕ
+mostPlace = 63
+
+abbrev pub mostRatio : ℕ
+mostRatio = 3
+
+abbrev pub mostFrequency : ℕ
+mostFrequency = 3
+
 -- what the table asks of each argument
 abbrev pub inRange : Settings → Bool
 inRange s =
-    both (leb (s .mode) 3) (both (leb (s .colour) 7) (both (leb (s .h) 63) (both (leb (s .v) 63) (both (leb (s .ratio) 3) (leb (s .frequency) 3)))))
+    both (leb (s .mode) mostMode)
+    (both (leb (s .colour) mostColour)
+    (both (leb (s .h) mostPlace)
+    (both (leb (s .v) mostPlace)
+    (both (leb (s .ratio) mostRatio) (leb (s .frequency) mostFrequency)))))
 
 abbrev pub areWords : List ℕ → Bool
 areWords words = both (eqb (length words) wordCount) (within mostWord words)
@@ -44,7 +64,7 @@ unfoldable pub answerOf : List ℕ → List ℕ → Settings → Lines → Dots 
 answerOf words font s line width room =
     pick (not (inRange s))
     (refused 1 0)
-    (pick (eqb (s .ratio) 3)
+    (pick (eqb (s .ratio) mostRatio)
     (refused 2 0)
     (pick (not (areWords words))
     (refused 3 0)

@@ -31,6 +31,17 @@ pub enum Painted {
     NoRoom,
 }
 
+// The largest mode and colour, h or v, ratio and frequency; the largest ratio is reserved.
+const MOST_MODE: u32 = 3;
+
+const MOST_COLOUR: u32 = 7;
+
+const MOST_PLACE: u32 = 63;
+
+const MOST_RATIO: u32 = 3;
+
+const MOST_FREQUENCY: u32 = 3;
+
 const WORDS: usize = 64;
 
 const MOST_WORD: u16 = 1023;
@@ -53,7 +64,7 @@ pub fn judged(
     if !in_range(settings) {
         return Painted::BadSetting;
     }
-    if settings.ratio == 3 {
+    if settings.ratio == MOST_RATIO {
         return Painted::ReservedRatio;
     }
     if words.len() != WORDS {
@@ -80,20 +91,20 @@ pub fn judged(
 fn in_range(s: Settings) -> bool
     ensures { λ r. ⌜ r ≡ inRange s ⌝ }
 {
-    if 3 < s.mode {
+    if MOST_MODE < s.mode {
         return false;
     }
-    if 7 < s.colour {
+    if MOST_COLOUR < s.colour {
         return false;
     }
-    if 63 < s.h {
+    if MOST_PLACE < s.h {
         return false;
     }
-    if 63 < s.v {
+    if MOST_PLACE < s.v {
         return false;
     }
-    if 3 < s.ratio {
+    if MOST_RATIO < s.ratio {
         return false;
     }
-    s.frequency <= 3
+    s.frequency <= MOST_FREQUENCY
 }
