@@ -15,9 +15,9 @@ use Rattle.laws.specs.Pick.{pick}
 use Rattle.dac.specs.declared.Pair.{Pair}
 use Rattle.dac.specs.declared.Dac.{Dac}
 use Rattle.dac.specs.Wave.{period, subPeriod, added, level, wave}
-use Rattle.dac.specs.Steps.{halves, keptPair, dacOf, kept, playing, nextLevel, clocked, afterClocks, levelsOf}
+use Rattle.dac.specs.Running.{halves, keptPair, dacOf, kept, playing, nextLevel, clocked, afterClocks, levelsOf}
 use Rattle.dac.specs.Play.{over}
-use Rattle.dac.specs.Stretch.{pulse}
+use Rattle.dac.specs.Steps.{pulse}
 
 pub length-wave : (q : Pair) (a n : ℕ) → length (wave q a n) ≡ n
 unfolding wave

@@ -11,7 +11,7 @@ use native.Mathlib.Omega.{arith}
 use lib.ListN.{replicate}
 use Rattle.dac.specs.declared.Pair.{Pair}
 use Rattle.dac.specs.Wave.{period, pair, wave}
-use Rattle.dac.specs.Steps.{keptHalf}
+use Rattle.dac.specs.Running.{keptHalf}
 use Rattle.periods.specs.Demand.{Event, play, Moment, wroteLow, wroteHigh, clock, momentsOf, moments, history, lastLow, lastPair, since, clocks, unreset, Period, heard, Playable, writtenInto, Writable, Undisturbed}
 use Rattle.periods.specs.Theorems.{Reached}
 use Rattle.dac.proofs.Answers.{may}

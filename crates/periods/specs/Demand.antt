@@ -11,7 +11,7 @@ use Rattle.laws.specs.Pick.{pick}
 use Rattle.dac.specs.declared.Pair.{Pair}
 use Rattle.dac.specs.declared.Dac.{Dac}
 use Rattle.dac.specs.Wave.{period, subPeriod, subPeriods, pair, wave}
-use Rattle.dac.specs.Steps.{keptHalf, afterReset, lowWritten, highWritten}
+use Rattle.dac.specs.Running.{keptHalf, afterReset, lowWritten, highWritten}
 use Rattle.dac.specs.Play.{tooMany, afterPlay, levelsPlayed}
 
 -- What a host does with its one running record: writes of a byte to either register, plays of so many clocks into so many bytes lent, resets.
