@@ -10,7 +10,7 @@ use borrow.Author.Tests.{lt-ltb, le-ltb}
 use Rattle.laws.specs.Said.{Said, accepted, refused}
 use Rattle.dac.specs.declared.Dac.{Dac}
 use Rattle.dac.specs.Wave.{period}
-use Rattle.dac.specs.Steps.{afterClocks, levelsOf}
+use Rattle.dac.specs.Running.{afterClocks, levelsOf}
 use Rattle.dac.specs.Play.{tooMany, answerOf, afterPlay, levelsPlayed, over, lentAfter}
 
 module _ (c room : ℕ) where

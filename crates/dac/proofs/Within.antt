@@ -12,17 +12,24 @@ use lib.ListN.{length, take, drop, replicate, length-append, length-drop, length
 use lib.Seq.{take-at, drop-at, drop-drop, drop-length, length-take-le}
 use borrow.Author.Tests.{ltb-true, ltb-false, eq-eqb, ne-eqb}
 use Rattle.laws.specs.Pick.{pick}
+use Rattle.laws.specs.Lists.{tabulate}
+use Rattle.laws.proofs.Lists.{length-tabulate, tabulate-same}
 use Rattle.dac.specs.declared.Pair.{Pair}
 use Rattle.dac.specs.declared.Dac.{Dac}
 use Rattle.dac.specs.Wave.{period, subPeriod, added, level, wave}
-use Rattle.dac.specs.Steps.{halves, keptPair, dacOf, kept, playing, nextLevel, clocked, afterClocks, levelsOf}
+use Rattle.dac.specs.Running.{halves, keptPair, dacOf, kept, playing, nextLevel, clocked, afterClocks, levelsOf}
 use Rattle.dac.specs.Play.{over}
-use Rattle.dac.specs.Stretch.{pulse}
+use Rattle.dac.specs.Steps.{pulse}
+
+pub wave-is : (q : Pair) (a n : ℕ) → wave q a n ≡ tabulate n (λ k. level q (a + k))
+unfolding wave tabulate
+wave-is q a zero = refl
+wave-is q a (suc n) =
+    ap₂ (λ (l : ℕ) (ls : List ℕ). l ∷ ls) (ap (λ (p : ℕ). level q p) (sym (add-zero a)))
+    (wave-is q (suc a) n ∙ tabulate-same n _ _ (λ k h. let e : suc a + k ≡ a + suc k = omega arith in ap (λ (p : ℕ). level q p) e))
 
 pub length-wave : (q : Pair) (a n : ℕ) → length (wave q a n) ≡ n
-unfolding wave
-length-wave q a zero = refl
-length-wave q a (suc n) = ap suc (length-wave q (suc a) n)
+length-wave q a n = ap length (wave-is q a n) ∙ length-tabulate n _
 
 pub wave-add : (q : Pair) (a n m : ℕ) → wave q a (n + m) ≡ wave q a n ++ wave q (a + n) m
 unfolding wave

@@ -1,4 +1,4 @@
 pub mod Play
+pub mod Running
 pub mod Steps
-pub mod Stretch
 pub mod Wave

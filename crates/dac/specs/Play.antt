@@ -11,7 +11,7 @@ use Rattle.dac.specs.declared.Dac.{Dac}
 use Rattle.dac.specs.declared.Played.{Played}
 use Rattle.dac.specs.declared.Played.the-variants.{All, TooMany}
 use Rattle.dac.specs.Wave.{period}
-use Rattle.dac.specs.Steps.{afterClocks, levelsOf}
+use Rattle.dac.specs.Running.{afterClocks, levelsOf}
 
 -- more clocks than a period has, or than bytes are lent
 abbrev pub tooMany : ℕ → ℕ → Bool

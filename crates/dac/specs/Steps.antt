@@ -1,62 +1,10 @@
--- The running record: what a reset, a write to either register and a clock make of it, and the level of each clock; document 01, 'Pulses'.
--- A host may hand over any record. Every step but a play of no clocks uses its kept form, and leaves a kept record.
+-- Not part of the account: what the private function that writes the bytes of one sub-period is told to write. proofs/Within.antt joins it to
+-- the levels of specs/Wave.antt.
 -- Assumes nothing.
-use Prim.Native.Nat.{ℕ, zero, suc, _+_, _%_}
-use mathlib.Core.List.{List, [], _∷_}
-use lib.Dec.{eqb}
-use Rattle.laws.specs.Pick.{pick}
-use Rattle.dac.specs.declared.Pair.{Pair}
-use Rattle.dac.specs.declared.Dac.{Dac}
-use Rattle.dac.specs.Wave.{period, pair, level}
+use Prim.Native.Nat.{ℕ, _-_, min}
+use mathlib.Core.List.{List, _++_}
+use lib.ListN.{replicate}
 
--- how many halves there are: a register keeps 7 bits
-abbrev pub halves : ℕ
-halves = 128
-
-abbrev pub keptHalf : ℕ → ℕ
-keptHalf byte = byte % halves
-
-abbrev pub keptPair : Pair → Pair
-keptPair q = pair (keptHalf (q .coarse)) (keptHalf (q .fine))
-
-abbrev pub dacOf : ℕ → Pair → Pair → Pair → Dac
-dacOf p h c f = record { position = p; held = h; completed = c; in_force = f }
-
-abbrev pub kept : Dac → Dac
-kept d = dacOf (d .position % period) (keptPair (d .held)) (keptPair (d .completed)) (keptPair (d .in_force))
-
-abbrev pub afterReset : Dac
-afterReset = dacOf 0 (pair 0 0) (pair 0 0) (pair 0 0)
-
--- A low half is held, and nothing else changes.
-abbrev pub lowWritten : Dac → ℕ → Dac
-lowWritten d byte =
-    let k = kept d in
-    dacOf (k .position) (pair (k .held .coarse) (keptHalf byte)) (k .completed) (k .in_force)
-
--- A high half is held, and makes a completed pair with the low half held then.
-abbrev pub highWritten : Dac → ℕ → Dac
-highWritten d byte =
-    let k = kept d in
-    let made = pair (keptHalf byte) (k .held .fine) in
-    dacOf (k .position) made made (k .in_force)
-
--- The pair by which the next clock of a kept record is played: at a period's first clock the pair completed last is put in force.
-unfoldable pub playing : Dac → Pair
-playing k = pick (eqb (k .position) 0) (k .completed) (k .in_force)
-
--- the level of that clock, and the record after it
-unfoldable pub nextLevel : Dac → ℕ
-nextLevel k = level (playing k) (k .position)
-
-unfoldable pub clocked : Dac → Dac
-clocked k = dacOf ((k .position + 1) % period) (k .held) (k .completed) (playing k)
-
--- the record after c clocks, and their levels in time's order
-unfoldable pub afterClocks : ℕ → Dac → Dac
-afterClocks zero d = d
-afterClocks (suc c) d = afterClocks c (clocked (kept d))
-
-unfoldable pub levelsOf : ℕ → Dac → List ℕ
-levelsOf zero d = []
-levelsOf (suc c) d = nextLevel (kept d) ∷ levelsOf c (clocked (kept d))
+-- the n levels from clock i on of a sub-period that is high for its first x clocks
+unfoldable pub pulse : ℕ → ℕ → ℕ → List ℕ
+pulse i x n = replicate (min (x - i) n) 1 ++ replicate (n - (x - i)) 0

@@ -36,7 +36,8 @@ added fine n = pick (eqb n 0) 0 (bit fine (6 - trailingZeros 7 n))
 unfoldable pub level : Pair → ℕ → ℕ
 level q p = pick (ltb (p % subPeriod) (q .coarse + added (q .fine) (p / subPeriod))) 1 0
 
--- the n levels from position a on, while the pair q is in force
+-- The n levels from position a on, while the pair q is in force. It is `tabulate` of those levels (`wave-is` of proofs/Within), written so that a
+-- whole period computes quickly.
 unfoldable pub wave : Pair → ℕ → ℕ → List ℕ
 wave q a zero = []
 wave q a (suc n) = level q a ∷ wave q (suc a) n

@@ -4,9 +4,9 @@ ghost use mathlib.Core.Path.{_≡_};
 ghost use Prim.Native.Nat.{_+_, _-_, _<_, _≤_, min};
 ghost use lib.ListN.{length};
 ghost use Rattle.dac.specs.Wave.{period, subPeriods, added as addedOf, wave};
-ghost use Rattle.dac.specs.Steps.{keptPair, kept as keptOf, afterReset, lowWritten, highWritten, playing as playingOf, afterClocks, levelsOf};
+ghost use Rattle.dac.specs.Running.{keptPair, kept as keptOf, afterReset, lowWritten, highWritten, playing as playingOf, afterClocks, levelsOf};
 ghost use Rattle.dac.specs.Play.{answerOf, afterPlay, lentAfter, over, said};
-ghost use Rattle.dac.specs.Stretch.{pulse};
+ghost use Rattle.dac.specs.Steps.{pulse};
 
 // In clocks.
 const PERIOD: usize = 16384;

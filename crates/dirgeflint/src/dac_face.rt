@@ -2,7 +2,7 @@
 // the step by value, and stores what comes back.
 ghost use mathlib.Core.Path.{_≡_};
 ghost use lib.ListN.{length};
-ghost use Rattle.dac.specs.Steps.{afterReset, lowWritten, highWritten};
+ghost use Rattle.dac.specs.Running.{afterReset, lowWritten, highWritten};
 ghost use Rattle.dac.specs.Play.{answerOf, afterPlay, lentAfter, said};
 ghost use Rattle.answer.specs.Told.{told};
 use answer::Answer;

@@ -12,8 +12,8 @@ use lib.Seq.{take-at, drop-at}
 use Rattle.laws.specs.Pick.{pick}
 use Rattle.dac.specs.declared.Pair.{Pair}
 use Rattle.dac.specs.Wave.{period, subPeriod, subPeriods, added, wave}
-use Rattle.dac.specs.Steps.{halves}
-use Rattle.dac.specs.Stretch.{pulse}
+use Rattle.dac.specs.Running.{halves}
+use Rattle.dac.specs.Steps.{pulse}
 use Rattle.periods.specs.Demand.{highs, highClocks, runOf, Shares}
 use Rattle.periods.proofs.Fair.{addedTo, added-le, added-all, run-below, run-above}
 use Rattle.dac.proofs.Within.{length-wave, wave-add, within-sub}

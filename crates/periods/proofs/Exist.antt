@@ -1,19 +1,21 @@
 -- That there are periods of demand 3: a play of 16,384 clocks where a period starts is one, and so are two plays of as many with a pair written
--- between them. The latter has the same levels, by `unaltered`; the pair written is the last one completed before the next period.
+-- between them. The latter has the same levels, by `unaltered`; the pair written is the last one completed before the next period, whose levels
+-- are its wave, by `waves`.
 -- Assumes nothing.
 use Prim.Native.Nat.{ℕ, zero, suc, _+_, _-_, _%_, _<_, _≤_}
 use mathlib.Core.Path.{_≡_, refl, sym, ap, ap₂, _∙_}
 use mathlib.Core.Bool.{true}
 use mathlib.Core.List.{List, [], _∷_, _++_, append-assoc, append-nil, reverse, reverseAux, reverse-reverse}
-use native.Mathlib.Nat.{zero-add}
+use native.Mathlib.Nat.{zero-add, add-zero}
 use native.Mathlib.Omega.{arith}
 use lib.ListN.{replicate}
-use Rattle.dac.specs.Wave.{period, pair}
-use Rattle.dac.specs.Steps.{keptHalf}
-use Rattle.periods.specs.Demand.{Event, play, Moment, wroteLow, wroteHigh, clock, momentsOf, moments, history, lastLow, lastPair, since, clocks, unreset, Period, Playable, writtenInto, Writable, Undisturbed}
+use Rattle.dac.specs.declared.Pair.{Pair}
+use Rattle.dac.specs.Wave.{period, pair, wave}
+use Rattle.dac.specs.Running.{keptHalf}
+use Rattle.periods.specs.Demand.{Event, play, Moment, wroteLow, wroteHigh, clock, momentsOf, moments, history, lastLow, lastPair, since, clocks, unreset, Period, heard, Playable, writtenInto, Writable, Undisturbed}
 use Rattle.periods.specs.Theorems.{Reached}
 use Rattle.dac.proofs.Answers.{may}
-use Rattle.periods.proofs.Stream.{unaltered, placed}
+use Rattle.periods.proofs.Stream.{waves, unaltered, placed}
 
 moments-append : (es fs : List Event) → moments (es ++ fs) ≡ moments es ++ moments fs
 unfolding moments
@@ -49,16 +51,14 @@ module _ (ms : List Moment) where
   unreset-then zero = refl
   unreset-then (suc n) = unreset-then n
 
--- and nothing but clocks
+-- and nothing else
 clocks-only : (n : ℕ) → clocks (replicate n clock) ≡ n
 unfolding clocks
-clocks-only zero = refl
-clocks-only (suc n) = ap suc (clocks-only n)
+clocks-only n = ap clocks (sym (append-nil (replicate n clock))) ∙ clocks-then [] n ∙ add-zero n
 
 unreset-only : (n : ℕ) → unreset (replicate n clock) ≡ true
 unfolding unreset
-unreset-only zero = refl
-unreset-only (suc n) = unreset-only n
+unreset-only n = ap unreset (sym (append-nil (replicate n clock))) ∙ unreset-then [] n
 
 whole-play : (room : ℕ) → period ≤ room → moments (play period room ∷ []) ≡ clock ∷ (replicate (period - 1) clock ++ [])
 unfolding moments
@@ -153,14 +153,18 @@ module _ (a room x y b room′ : ℕ) (some : 0 < a) (all : a + b ≡ period) (f
     unfolding lastPair lastLow
     next-pair = ap lastPair over ∙ pair-more b (wroteHigh y ∷ wroteLow x ∷ more a (history es))
 
+    next-heard : (whole : ℕ) → period ≤ whole → heard ((es ++ events) ++ (play period whole ∷ [])) (history (es ++ events)) ≡ wave (pair (keptHalf y) (keptHalf x)) 0 period
+    next-heard whole fits-whole = waves _ _ _ _ (playable (es ++ events) whole fits-whole next-starts) ∙ ap (λ (q : Pair). wave q 0 period) next-pair
+
 pub writable : Writable
 unfolding events later
-writable es a room x y b room′ some all fits fits′ s = as-period a room x y b room′ some all fits fits′ es s
+writable es a room x y b room′ some then-some all fits fits′ s = as-period a room x y b room′ some all fits fits′ es s
 
 pub undisturbed : Undisturbed
 unfolding events
-undisturbed es a room x y b room′ whole some all fits fits′ fits-whole s = (
-  unaltered _ _ _ _ (writable es a room x y b room′ some all fits fits′ s) _ _ _ _ (playable es whole fits-whole s) refl,
+undisturbed es a room x y b room′ whole some then-some all fits fits′ fits-whole s = (
+  unaltered _ _ _ _ (writable es a room x y b room′ some then-some all fits fits′ s) _ _ _ _ (playable es whole fits-whole s) refl,
   next-starts a room x y b room′ some all fits fits′ es s,
   next-pair a room x y b room′ some all fits fits′ es s,
+  next-heard a room x y b room′ some all fits fits′ es s whole fits-whole,
 )

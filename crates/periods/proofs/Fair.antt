@@ -11,7 +11,7 @@ use Rattle.laws.specs.Pick.{pick, both}
 use Rattle.laws.proofs.Both.{both-parts}
 use Rattle.laws.proofs.Tests.{upto, upto-at}
 use Rattle.dac.specs.Wave.{subPeriods, added, bit}
-use Rattle.dac.specs.Steps.{halves}
+use Rattle.dac.specs.Running.{halves}
 
 -- a sub-period gets one clock or none
 pub added-le : (fine n : ℕ) → added fine n ≤ 1

@@ -1,7 +1,7 @@
 -- The statements of specs/Theorems.antt about the definitions, from dac's own laws of them and from the count of high clocks.
 -- Assumes nothing.
 use Prim.Native.Nat.{ℕ, zero, suc, _+_, _-_, _%_, _<_, _≤_}
-use mathlib.Core.Path.{_≡_, refl, sym, ap, ap₂, _∙_}
+use mathlib.Core.Path.{_≡_, refl, sym, ap, _∙_}
 use mathlib.Core.Bool.{Bool, true, false, false≢true, _||_}
 use mathlib.Core.List.{List, [], _∷_, _++_, append-assoc, append-nil}
 use native.Mathlib.Omega.{arith}
@@ -12,11 +12,12 @@ use lib.Seq.{take-at, drop-at, drop-length, drop-append-add}
 use borrow.Author.Tests.{ne-eqb, ltb-false}
 use Rattle.dac.specs.declared.Pair.{Pair}
 use Rattle.dac.specs.declared.Dac.{Dac}
-use Rattle.dac.specs.Wave.{period, subPeriods, pair, bit, added, level, wave}
-use Rattle.dac.specs.Steps.{halves, keptHalf, keptPair, dacOf, kept, nextLevel, clocked, afterClocks, levelsOf}
+use Rattle.dac.specs.Wave.{period, subPeriods, pair, bit, added, wave}
+use Rattle.dac.specs.Running.{halves, keptHalf, keptPair, dacOf, kept, nextLevel, clocked, afterClocks, levelsOf}
 use Rattle.dac.specs.Play.{tooMany, afterPlay, levelsPlayed, lentAfter}
 use Rattle.periods.specs.Theorems.{Serves, BothHalves, Joined, Found, Keeps}
-use Rattle.dac.proofs.Within.{pair-kept, keptPair-kept, playing-kept, length-levels, levels-split, after-split}
+use Rattle.laws.proofs.Lists.{tabulate-same}
+use Rattle.dac.proofs.Within.{wave-is, pair-kept, keptPair-kept, playing-kept, length-levels, levels-split, after-split}
 use Rattle.dac.proofs.Answers.{may, refused-play, accepted-play}
 use Rattle.periods.proofs.Count.{one-pair}
 
@@ -29,12 +30,6 @@ serves fine = (refl, by-bit)
         let back : 6 - (6 - b) ≡ b = omega arith in
         rw (ne-eqb n 0 (λ z. omega arith), e, back)
 
-same-wave : (p q : Pair) (a n : ℕ) → ((i : ℕ) → a ≤ i → i < a + n → level p i ≡ level q i) → wave p a n ≡ wave q a n
-unfolding wave
-same-wave p q a zero h = refl
-same-wave p q a (suc n) h =
-    ap₂ (λ (l : ℕ) (ls : List ℕ). l ∷ ls) (h a (omega arith) (omega arith)) (same-wave p q (suc a) n (λ i lo hi. h i (omega arith) (omega arith)))
-
 kept-small : (p : Pair) → keptPair p ≡ p → (p .coarse < halves) × (p .fine < halves)
 kept-small p e =
     let c : p .coarse % halves ≡ p .coarse = ap (λ (x : Pair). x .coarse) e in
@@ -45,7 +40,8 @@ pub both-halves : BothHalves
 both-halves p q kp kq h =
     let a = kept-small p kp in
     let b = kept-small q kq in
-    let e : p ≡ q = one-pair p q (a .0) (a .1) (b .0) (b .1) (same-wave p q 0 period (λ i lo hi. h i (omega arith))) in
+    let same : wave p 0 period ≡ wave q 0 period = wave-is p 0 period ∙ tabulate-same period _ _ (λ i small. h (0 + i) (omega arith)) ∙ sym (wave-is q 0 period) in
+    let e : p ≡ q = one-pair p q (a .0) (a .1) (b .0) (b .1) same in
     (ap (λ (x : Pair). x .coarse) e, ap (λ (x : Pair). x .fine) e)
 
 -- a play that is not refused asks for no more than there may be, and leaves its levels in the first bytes lent

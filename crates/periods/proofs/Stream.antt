@@ -14,7 +14,7 @@ use Rattle.laws.specs.Pick.{pick}
 use Rattle.dac.specs.declared.Pair.{Pair}
 use Rattle.dac.specs.declared.Dac.{Dac}
 use Rattle.dac.specs.Wave.{period, pair, level, wave}
-use Rattle.dac.specs.Steps.{halves, keptHalf, keptPair, kept, afterReset, lowWritten, highWritten, playing, nextLevel, clocked, afterClocks, levelsOf}
+use Rattle.dac.specs.Running.{halves, keptHalf, keptPair, kept, afterReset, lowWritten, highWritten, playing, nextLevel, clocked, afterClocks, levelsOf}
 use Rattle.dac.specs.Play.{tooMany, afterPlay, levelsPlayed}
 use Rattle.periods.specs.Demand.{Event, low, high, play, reset, step, puts, run, output, Moment, wroteLow, wroteHigh, clock, cleared, momentsOf, moments, lastLow, lastPair, since, clocks, unreset, Period, heard, highClocks, Shares, Demand3, Unaltered, history}
 use Rattle.periods.specs.Theorems.{Waves, Placed}

@@ -10,8 +10,8 @@ use lib.ListN.{length, take, drop, replicate}
 use Rattle.laws.specs.Pick.{pick}
 use Rattle.dac.specs.declared.Pair.{Pair}
 use Rattle.dac.specs.declared.Dac.{Dac}
-use Rattle.dac.specs.Wave.{period, subPeriod, subPeriods, pair}
-use Rattle.dac.specs.Steps.{keptHalf, afterReset, lowWritten, highWritten}
+use Rattle.dac.specs.Wave.{period, subPeriod, subPeriods, pair, wave}
+use Rattle.dac.specs.Running.{keptHalf, afterReset, lowWritten, highWritten}
 use Rattle.dac.specs.Play.{tooMany, afterPlay, levelsPlayed}
 
 -- What a host does with its one running record: writes of a byte to either register, plays of so many clocks into so many bytes lent, resets.
@@ -100,8 +100,9 @@ unreset (wroteHigh byte ∷ ms) = unreset ms
 unreset (clock ∷ ms) = unreset ms
 unreset (cleared ∷ ms) = false
 
--- A period of the sequence es, played to its end: h is the history before its first clock, p what followed that clock up to the period's last,
--- in time's order, and rest what came later. Where plays begin and end is not said: they may cross the period's ends as they like.
+-- A period of the sequence es, played to its end: h is the history before its first clock, p what followed that clock, in time's order, with the
+-- period's last clock in it, and rest what came later. Writes between the last clock and the next period's first may stand in p or in rest. Where
+-- plays begin and end is not said: they may cross the period's ends as they like.
 pub record Period (es : List Event) (h p rest : List Moment) : Type 0 where
   pub whole : moments es ≡ reverse h ++ (clock ∷ (p ++ rest))
   pub starts : since h % period ≡ 0
@@ -156,13 +157,16 @@ writtenInto a room x y b room′ = play a room ∷ low x ∷ high y ∷ play b r
 
 abbrev pub Writable : Type 0
 Writable =
-    (es : List Event) (a room x y b room′ : ℕ) → 0 < a → a + b ≡ period → a ≤ room → b ≤ room′ → since (history es) % period ≡ 0
+    (es : List Event) (a room x y b room′ : ℕ) → 0 < a → 0 < b → a + b ≡ period → a ≤ room → b ≤ room′ → since (history es) % period ≡ 0
     → Period (es ++ writtenInto a room x y b room′) (history es) (replicate (a - 1) clock ++ (wroteLow x ∷ wroteHigh y ∷ replicate b clock)) []
 
--- So the pair written into a period leaves its levels as if it had been played at once with no write, and is the one that the next goes by.
+-- So the pair written into a period leaves its levels as if it had been played at once with no write, and the next period goes by it: played
+-- whole, its levels are those that the pair gives.
 abbrev pub Undisturbed : Type 0
 Undisturbed =
-    (es : List Event) (a room x y b room′ whole : ℕ) → 0 < a → a + b ≡ period → a ≤ room → b ≤ room′ → period ≤ whole → since (history es) % period ≡ 0
+    (es : List Event) (a room x y b room′ whole : ℕ) → 0 < a → 0 < b → a + b ≡ period → a ≤ room → b ≤ room′ → period ≤ whole → since (history es) % period ≡ 0
     → let fs = es ++ writtenInto a room x y b room′ in
+    let written = pair (keptHalf y) (keptHalf x) in
     (heard fs (history es) ≡ heard (es ++ (play period whole ∷ [])) (history es))
-    × (since (history fs) % period ≡ 0) × (lastPair (history fs) ≡ pair (keptHalf y) (keptHalf x))
+    × (since (history fs) % period ≡ 0) × (lastPair (history fs) ≡ written)
+    × (heard (fs ++ (play period whole ∷ [])) (history fs) ≡ wave written 0 period)

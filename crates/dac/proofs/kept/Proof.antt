@@ -3,7 +3,7 @@
 use Prim.Native.Nat.{_%_}
 use borrow.Author.Needs.{needs}
 use Rattle.dac.specs.Wave.{period}
-use Rattle.dac.specs.Steps.{dacOf}
+use Rattle.dac.specs.Running.{dacOf}
 use Rattle.dac.proofs.kept.Statement.{statement}
 use Rattle.dac.proofs.kept.Tie as tie
 

@@ -8,7 +8,7 @@ use borrow.Author.Needs.{needs}
 use lib.Seq.{length-take-le}
 use Rattle.dac.specs.declared.Dac.{Dac}
 use Rattle.dac.specs.Wave.{period}
-use Rattle.dac.specs.Steps.{afterClocks, levelsOf}
+use Rattle.dac.specs.Running.{afterClocks, levelsOf}
 use Rattle.dac.specs.Play.{over}
 use Rattle.dac.proofs.Within.{position-small, run-within, run-across}
 use Rattle.dac.proofs.run.Statement.{statement}

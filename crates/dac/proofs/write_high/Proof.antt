@@ -4,7 +4,7 @@ use mathlib.Core.Path.{ap}
 use borrow.Author.Needs.{needs}
 use Rattle.dac.specs.declared.Dac.{Dac}
 use Rattle.dac.specs.Wave.{pair}
-use Rattle.dac.specs.Steps.{keptHalf, dacOf}
+use Rattle.dac.specs.Running.{keptHalf, dacOf}
 use Rattle.dac.proofs.write_high.Statement.{statement}
 use Rattle.dac.proofs.write_high.Tie as tie
 

@@ -5,7 +5,7 @@ use contract.Running.{givenOf, tables, tablesOf}
 use denote.Triple.Spec.{tripleOf}
 use denote.Triple.Table.{entered, cited}
 use Rattle.dac.specs.declared.Dac.{Dac}
-use Rattle.dac.specs.Steps.{afterReset}
+use Rattle.dac.specs.Running.{afterReset}
 use Rattle.dac.proofs.fresh.Symbol as step
 use Rattle.dac.proofs.fresh.Met as step-met
 use Rattle.lent.proofs.Reset.{ResetStep, reset-meets}

@@ -6,7 +6,7 @@ use contract.Running.{givenOf, tables, tablesOf}
 use denote.Triple.Spec.{tripleOf}
 use denote.Triple.Table.{entered, cited}
 use Rattle.dac.specs.declared.Dac.{Dac}
-use Rattle.dac.specs.Steps.{highWritten}
+use Rattle.dac.specs.Running.{highWritten}
 use Rattle.dac.proofs.write_high.Symbol as step
 use Rattle.dac.proofs.write_high.Met as step-met
 use Rattle.lent.proofs.Write.{WriteStep, write-meets}

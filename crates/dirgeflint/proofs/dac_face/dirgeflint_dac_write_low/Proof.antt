@@ -6,7 +6,7 @@ use contract.Running.{givenOf, tables, tablesOf}
 use denote.Triple.Spec.{tripleOf}
 use denote.Triple.Table.{entered, cited}
 use Rattle.dac.specs.declared.Dac.{Dac}
-use Rattle.dac.specs.Steps.{lowWritten}
+use Rattle.dac.specs.Running.{lowWritten}
 use Rattle.dac.proofs.write_low.Symbol as step
 use Rattle.dac.proofs.write_low.Met as step-met
 use Rattle.lent.proofs.Write.{WriteStep, write-meets}
