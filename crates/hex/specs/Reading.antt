@@ -19,7 +19,7 @@ use Rattle.hex.specs.declared.Outcome.the-variants.{Done, NoRoom, BadSha
 abbrev pub mostText : ℕ
 mostText = 65535
 
--- record k, and its fault after the records before it
+-- record k, or line k; and a record's fault after the records before it
 abbrev pub nth : List (List ℕ) → ℕ → List ℕ
 nth rs k = getD rs k []
 

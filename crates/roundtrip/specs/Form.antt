@@ -24,11 +24,7 @@ lineData = 16
 abbrev pub recordSize : ℕ
 recordSize = frame + lineData
 
--- how many such lines there are
-abbrev pub dataLines : ℕ
-dataLines = 512
-
--- the bytes that the digits of its line spell
+-- the bytes that its digits spell
 abbrev pub spelled : List ℕ → List ℕ
 spelled line = bytesFrom line 1 recordSize
 
@@ -44,11 +40,15 @@ pub record IsDataLine (n : ℕ) (line : List ℕ) : Type 0 where
   pub typed : typeOf (spelled line) ≡ dataType
   pub summed : sumOf (spelled line) ≡ 0
 
+-- how many such lines there are
+abbrev pub dataLines : ℕ
+dataLines = 512
+
 -- :00000001FF and LF
 abbrev pub endLine : List ℕ
 endLine = 58 ∷ 48 ∷ 48 ∷ 48 ∷ 48 ∷ 48 ∷ 48 ∷ 48 ∷ 49 ∷ 70 ∷ 70 ∷ 10 ∷ []
 
--- all lines, counted from 0
+-- these lines, counted from 0, and then that one
 pub record HasWritersForm (text : List ℕ) : Type 0 where
   pub size : length (lines text) ≡ dataLines + 1
   pub each : (n : ℕ) → n < dataLines → IsDataLine n (nth (lines text) n)
