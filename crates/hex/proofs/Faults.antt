@@ -16,7 +16,7 @@ pub is-end : (r : List ℕ) → typeOf r ≡ 1 → lengthOf r ≡ 0 → addressO
 unfolding isEnd
 is-end r t l a = simp (eq-eqb (typeOf r) 1 t, eq-eqb (lengthOf r) 0 l, eq-eqb (addressOf r) 0 a)
 
-pub end-length : (r : List ℕ) → isEnd r ≡ true → (lengthOf r ≡ 0) × (addressOf r ≡ 0)
+end-length : (r : List ℕ) → isEnd r ≡ true → (lengthOf r ≡ 0) × (addressOf r ≡ 0)
 unfolding isEnd
 end-length r e =
     let parts = both-parts (eqb (lengthOf r) 0) (eqb (addressOf r) 0) (both-parts (eqb (typeOf r) 1) _ e .1) in

@@ -17,7 +17,7 @@ use Rattle.laws.specs.Placing.{spanHas, patched}
 use Rattle.laws.proofs.Both.{both-parts}
 use Rattle.laws.proofs.Lists.{getD-tabulate, length-tabulate, tabulate-same}
 use Rattle.laws.proofs.Placing.{span-has}
-use Rattle.hex.specs.Digits.{digit, byteAt}
+use Rattle.hex.specs.Digits.{digit, byteAt, bytesFrom}
 use Rattle.hex.specs.Records.{allDigits, isShaped, spelledBy, recordOf, lengthOf, addressOf, gives, dataAt, byteIn, isGiven}
 use Rattle.hex.specs.Steps.{storedAt}
 use Rattle.hex.proofs.Shape.{digits-at}
@@ -33,7 +33,7 @@ module _ (body : List ℕ) (e : isShaped body ≡ true) where
   body-digit : (k : ℕ) → 1 + k < length body → digit (getD body (1 + k) 0) < 16
   body-digit k h = rw (← getD-drop 1 body k 0) (digits-at (drop 1 body) (shaped-parts .0) k (omega (arith, length-drop 1 body)))
 
-  spelled-is : spelledBy body ≡ tabulate (5 + byteAt body 1) (λ i. byteAt body (1 + 2 * i))
+  spelled-is : spelledBy body ≡ bytesFrom body 1 (5 + byteAt body 1)
   unfolding spelledBy
   spelled-is = rw e
 

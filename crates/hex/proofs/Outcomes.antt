@@ -10,9 +10,9 @@ use types.Run.{OneOf, miss}
 use lib.ListN.{length, getD, drop}
 use borrow.Author.Tests.{le-ltb, lt-ltb, eq-eqb, ne-eqb}
 use Rattle.laws.specs.Pick.{pick}
-use Rattle.laws.specs.Said.{Said}
 use Rattle.laws.specs.Lists.{tabulate}
 use Rattle.laws.proofs.Lists.{tabulate-same, getD-tabulate}
+use Rattle.laws.proofs.Said.{number-of}
 use Rattle.hex.specs.Lines.{lines}
 use Rattle.hex.specs.Records.{records, recordOf, byteIn, gives, dataAt}
 use Rattle.hex.specs.Reading.{answerOf, leftOf, said, verdict}
@@ -40,7 +40,7 @@ module _ (text room : List ℕ) (long : 8192 ≤ length room) (short : length te
 
   module _ (x : Outcome) (is : said x ≡ verdict text) where
     number : said x .number ≡ answerOf text (length room) .number
-    number = ap (λ (s : Said). s .number) (is ∙ answers)
+    number = number-of (is ∙ answers)
 
     pub leaves : said x .number ≡ 0 → (scratch : List ℕ) → scratch ≡ tabulate 8192 (byteIn 256 (records text))
         → tabulate 8192 (λ i. byteOf (getD scratch i 0)) ++ drop 8192 room ≡ leftOf text room

@@ -4,7 +4,7 @@
 use mathlib.Core.Path.{_≡_, refl, sym, _∙_, ap}
 use mathlib.Core.Bool.{Bool, true, false, false≢true}
 use mathlib.Core.List.{List, [], _∷_, _++_, map}
-use Prim.Native.Nat.{ℕ, zero, suc, _+_, _*_, _<_, _≤_}
+use Prim.Native.Nat.{ℕ, _+_, _*_, _<_, _≤_}
 use native.Mathlib.Nat.{not-suc-le-zero, add-zero}
 use native.Mathlib.Numerals.{add-one}
 use native.Mathlib.Omega.{arith}
@@ -18,8 +18,8 @@ use Rattle.laws.specs.Said.{accepted, refused}
 use Rattle.laws.specs.Lists.{tabulate, firstOf}
 use Rattle.laws.specs.Sums.{sumAll}
 use Rattle.laws.proofs.Sums.{sum-take}
-use Rattle.laws.proofs.Lists.{is-tabulate, first-is, first-none, first-same, first-before, getD-tabulate, length-tabulate}
-use Rattle.hex.specs.Digits.{byteAt}
+use Rattle.laws.proofs.Lists.{is-tabulate, first-is, first-none, first-same, first-before, getD-tabulate, length-tabulate, take-map}
+use Rattle.hex.specs.Digits.{byteAt, bytesFrom}
 use Rattle.hex.specs.Lines.{bodyOf, lines, onto, placeOf}
 use Rattle.hex.specs.Records.{frame, sumOf, addressOf, isGiven, freshIn, records, recordOf, spelledBy, isShaped, lengthOf, byteIn, countOf, faultOf, isEnd}
 use Rattle.hex.specs.Reading.{nth, faultAt, stopsAt, stopOf, judged, verdict}
@@ -65,14 +65,9 @@ unfolding lineAt recordAt spelledBy
 line-unshaped text at e = go (isShaped (bodyOf (drop at text))) e
   where
     go : (b : Bool) → Unshaped ≡ pick b (Shaped (sumOf (recordAt text at)) (nextAt text at)) Unshaped
-        → pick b (tabulate (frame + byteAt (bodyOf (drop at text)) 1) (λ i. byteAt (bodyOf (drop at text)) (1 + 2 * i))) [] ≡ []
+        → pick b (bytesFrom (bodyOf (drop at text)) 1 (frame + byteAt (bodyOf (drop at text)) 1)) [] ≡ []
     go true e = absurd (not-shaped _ _ (sym e))
     go false e = refl
-
-pub take-map : (f : List ℕ → List ℕ) (k : ℕ) (ls : List (List ℕ)) → take k (map f ls) ≡ map f (take k ls)
-take-map f zero ls = refl
-take-map f (suc k) [] = refl
-take-map f (suc k) (l ∷ ls) = ap (λ (t : List (List ℕ)). f l ∷ t) (take-map f k ls)
 
 record-nil : recordOf [] ≡ []
 unfolding spelledBy isShaped bodyOf

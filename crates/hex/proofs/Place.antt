@@ -1,16 +1,16 @@
 -- What the reader's tests at a place of the text say of the line that starts there: they are the record's shape in the text's own places.
 -- Assumes nothing.
 use mathlib.Core.Path.{_≡_, sym, _∙_, ap}
-use mathlib.Core.Bool.{true}
 use mathlib.Core.List.{List, _∷_}
 use Prim.Native.Nat.{ℕ, _+_, _-_, _*_, _<_, _≤_}
 use native.Mathlib.Omega.{arith}
 use lib.ListN.{length, getD, take, drop, length-drop}
 use lib.Seq.{drop-drop, length-take-le}
 use Rattle.laws.proofs.Lists.{length-tabulate}
-use Rattle.hex.specs.Lines.{bodyOf, lines}
-use Rattle.hex.specs.Records.{isShaped, spelledBy, sumOf}
-use Rattle.hex.specs.Steps.{bytesFrom, sumFrom, pastEnd, endLength, recordAt, nextAt, lineAt}
+use Rattle.hex.specs.Digits.{bytesFrom}
+use Rattle.hex.specs.Lines.{lines}
+use Rattle.hex.specs.Records.{spelledBy, sumOf}
+use Rattle.hex.specs.Steps.{sumFrom, pastEnd, endLength, recordAt, nextAt, lineAt}
 use Rattle.hex.specs.declared.Line.the-variants.{Shaped, Unshaped}
 use Rattle.hex.proofs.Lines.{first-cut, end-fits}
 use Rattle.hex.proofs.Steps.{sum-good, sum-digits, past-some, past-ends}
@@ -27,9 +27,6 @@ module _ (text : List ℕ) (place : ℕ) (here : place < length text) where
     pub record-here : recordAt text place ≡ bytesFrom text (place + 1) (sizeAt text place)
     unfolding recordAt
     record-here = shape-spells text place shape
-
-    pub shaped-here : isShaped (bodyOf (drop place text)) ≡ true
-    shaped-here = shape-is text place shape
 
     line-size : ℕ
     line-size = bodySize text place + endLength (drop (bodySize text place) (drop place text))
@@ -70,7 +67,7 @@ module _ (text : List ℕ) (place : ℕ) (here : place < length text) where
     no-end h shape = omega (arith, past-some text (place + 1 + 2 * n) (rw asked (shape .ends)))
 
     module _ (begins : getD text place 0 ≡ 58) (summed : sumFrom text (place + 1) n < 256) (ended : pastEnd text (place + 1 + 2 * n) ≡ 0 → ⊥) where
-      pub shape-found : Shape text place
+      shape-found : Shape text place
       shape-found =
           record {
             begins = begins;
@@ -92,4 +89,4 @@ module _ (text : List ℕ) (place : ℕ) (here : place < length text) where
           past-some text (place + 1 + 2 * n) (past-ends text (place + 1 + 2 * n) ended)
           ∙ ap (λ m. place + 1 + 2 * m + endLength (drop (place + 1 + 2 * m) text)) asked ∙ sym (next-here shape) in
           let size : length (recordAt text place) ≡ n = ap length rec ∙ length-tabulate n _ in
-          (rw (shaped-here shape, sum, next), rw size (e ∙ sym rec))
+          (rw (shape-is text place shape, sum, next), rw size (e ∙ sym rec))

@@ -14,7 +14,7 @@ use borrow.Author.Tests.{lt-ltb, ltb-true, eq-eqb, eqb-true}
 use Rattle.laws.specs.Lists.{tabulate}
 use Rattle.laws.proofs.Both.{both-parts}
 use Rattle.laws.proofs.Lists.{tabulate-same}
-use Rattle.hex.specs.Digits.{digit, byteAt}
+use Rattle.hex.specs.Digits.{digit, byteAt, bytesFrom}
 use Rattle.hex.specs.Lines.{Plain, atEnd, bodyOf}
 use Rattle.hex.specs.Records.{allDigits, isShaped, spelledBy}
 use Rattle.hex.proofs.Lines.{Cut, body-cut, body-cuts}
@@ -104,7 +104,7 @@ module _ (text : List ℕ) (place : ℕ) where
         rw (getD-drop 1 body k 0 ∙ getD-take bodySize (drop place text) (1 + k) 0 l ∙ at-next k) (shape .digits k (omega arith))))
         (eq-eqb (length body) (1 + 2 * (5 + byteAt body 1)) (long ∙ ap (λ n. 1 + 2 * n) (sym size)))))
 
-    pub shape-spells : spelledBy (bodyOf (drop place text)) ≡ tabulate (sizeAt text place) (λ i. byteAt text (place + 1 + 2 * i))
+    pub shape-spells : spelledBy (bodyOf (drop place text)) ≡ bytesFrom text (place + 1) (sizeAt text place)
     unfolding spelledBy
     shape-spells =
         let body = take bodySize (drop place text) in

@@ -19,10 +19,10 @@ use Rattle.laws.specs.Sums.{sumAll}
 use Rattle.laws.proofs.Lists.{getD-tabulate, first-none, first-before}
 use Rattle.laws.proofs.Patched.{patched-none, patched-here, patched-other, patched-out}
 use Rattle.laws.proofs.Sums.{sum-tabulate}
-use Rattle.hex.specs.Digits.{digit}
+use Rattle.hex.specs.Digits.{digit, bytesFrom}
 use Rattle.hex.specs.Lines.{atEnd}
 use Rattle.hex.specs.Records.{allDigits}
-use Rattle.hex.specs.Steps.{digitTable, bytesFrom, sumFrom, pastEnd, endLength, storedAt}
+use Rattle.hex.specs.Steps.{digitTable, sumFrom, pastEnd, endLength, storedAt}
 use Rattle.hex.proofs.Shape.{digits-at, digits-all}
 
 pub table-digit : (digits : List ℕ) (c : ℕ) → digits ≡ digitTable → c < 256 → getD digits c 0 ≡ digit c

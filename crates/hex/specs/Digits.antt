@@ -6,6 +6,7 @@ use mathlib.Core.List.{List}
 use lib.Dec.{leb}
 use lib.ListN.{getD}
 use Rattle.laws.specs.Pick.{pick, both}
+use Rattle.laws.specs.Lists.{tabulate}
 
 abbrev pub among : ℕ → ℕ → ℕ → Bool
 among low high c = both (leb low c) (leb c high)
@@ -17,3 +18,7 @@ digit c = pick (among 48 57 c) (c - 48) (pick (among 65 70 c) (c - 55) (pick (am
 -- the byte that the two digits at a place spell
 abbrev pub byteAt : List ℕ → ℕ → ℕ
 byteAt s place = 16 * digit (getD s place 0) + digit (getD s (place + 1) 0)
+
+-- n bytes from a place on, two digits each
+abbrev pub bytesFrom : List ℕ → ℕ → ℕ → List ℕ
+bytesFrom s place n = tabulate n (λ i. byteAt s (place + 2 * i))

@@ -10,7 +10,7 @@ use lib.ListN.{length, getD, take, drop}
 use Rattle.laws.specs.Pick.{pick}
 use Rattle.laws.specs.Said.{Said, accepted, refused}
 use Rattle.laws.specs.Lists.{tabulate, firstOf}
-use Rattle.image.specs.Image.{imageBytes}
+use Rattle.image.specs.Image.{imageBytes, unused}
 use Rattle.hex.specs.Lines.{lines, placeOf}
 use Rattle.hex.specs.Records.{records, isEnd, byteIn, countOf, faultOf}
 use Rattle.hex.specs.declared.Outcome.{Outcome}
@@ -19,7 +19,7 @@ use Rattle.hex.specs.declared.Outcome.the-variants.{Done, NoRoom, BadSha
 abbrev pub mostText : ℕ
 mostText = 65535
 
--- record k, and its fault after the records before it
+-- record k, or line k; and a record's fault after the records before it
 abbrev pub nth : List (List ℕ) → ℕ → List ℕ
 nth rs k = getD rs k []
 
@@ -52,7 +52,7 @@ answerOf text room = pick (ltb room imageBytes) (refused 6 0) (pick (ltb mostTex
 
 -- the image that a text spells: FF where no record gives a byte
 abbrev pub imageIn : List ℕ → List ℕ
-imageIn text = tabulate imageBytes (byteIn 255 (records text))
+imageIn text = tabulate imageBytes (byteIn unused (records text))
 
 -- what reading leaves in the room: the image and the bytes after it; a refusal leaves what was there
 unfoldable pub leftOf : List ℕ → List ℕ → List ℕ

@@ -8,11 +8,11 @@ use mathlib.Core.List.{List, [], _∷_, map}
 use lib.Dec.{eqb, ltb}
 use lib.ListN.{length, getD, drop}
 use Rattle.laws.specs.Pick.{pick, both}
-use Rattle.laws.specs.Lists.{tabulate, firstOf}
+use Rattle.laws.specs.Lists.{firstOf}
 use Rattle.laws.specs.Placing.{spanHas}
 use Rattle.laws.specs.Sums.{sumAll}
 use Rattle.image.specs.Image.{imageBytes}
-use Rattle.hex.specs.Digits.{digit, byteAt}
+use Rattle.hex.specs.Digits.{digit, byteAt, bytesFrom}
 use Rattle.hex.specs.Lines.{lines, bodyOf}
 
 abbrev pub colon : ℕ
@@ -39,7 +39,7 @@ isShaped body = both (eqb (getD body 0 0) colon) (both (allDigits (drop 1 body))
 
 -- the record of a line without its end
 unfoldable pub spelledBy : List ℕ → List ℕ
-spelledBy body = pick (isShaped body) (tabulate (frame + byteAt body 1) (λ i. byteAt body (1 + 2 * i))) []
+spelledBy body = pick (isShaped body) (bytesFrom body 1 (frame + byteAt body 1)) []
 
 abbrev pub recordOf : List ℕ → List ℕ
 recordOf line = spelledBy (bodyOf line)

@@ -9,10 +9,10 @@ use Rattle.laws.specs.Pick.{pick}
 use Rattle.laws.specs.Lists.{tabulate}
 use Rattle.laws.specs.Placing.{patched}
 use Rattle.laws.specs.Sums.{sumAll}
-use Rattle.image.specs.Image.{imageBytes}
-use Rattle.hex.specs.Digits.{digit, byteAt}
+use Rattle.image.specs.Image.{imageBytes, unused}
+use Rattle.hex.specs.Digits.{digit, bytesFrom}
 use Rattle.hex.specs.Lines.{lines, bodyOf, atEnd, LF}
-use Rattle.hex.specs.Records.{frame, isShaped, spelledBy, allDigits, sumOf}
+use Rattle.hex.specs.Records.{frame, isShaped, recordOf, allDigits, sumOf}
 use Rattle.hex.specs.declared.Line.{Line}
 use Rattle.hex.specs.declared.Line.the-variants.{Shaped, Unshaped}
 
@@ -24,11 +24,7 @@ recordMost = frame + 255
 abbrev pub digitTable : List ℕ
 digitTable = tabulate 256 digit
 
--- n bytes from a place on, two digits each
-abbrev pub bytesFrom : List ℕ → ℕ → ℕ → List ℕ
-bytesFrom text place n = tabulate n (λ i. byteAt text (place + 2 * i))
-
--- their eight-bit sum, or 256 where they are not all digits
+-- the eight-bit sum of n bytes from a place on, two digits each, or 256 where they are not all digits
 unfoldable pub sumFrom : List ℕ → ℕ → ℕ → ℕ
 sumFrom text place n = pick (allDigits (take (2 * n) (drop place text))) (sumAll (bytesFrom text place n) % 256) 256
 
@@ -43,7 +39,7 @@ pastEnd text place = pick (atEnd (drop place text)) (place + endLength (drop pla
 
 -- the record of the line that starts at a place
 unfoldable pub recordAt : List ℕ → ℕ → List ℕ
-recordAt text place = spelledBy (bodyOf (drop place text))
+recordAt text place = recordOf (drop place text)
 
 -- where the line after it starts
 unfoldable pub nextAt : List ℕ → ℕ → ℕ
@@ -66,4 +62,4 @@ storedAt bytes address n scratch a = patched address n (λ i. getD bytes (4 + i)
 
 -- the byte of the image for what the scratch holds
 abbrev pub byteOf : ℕ → ℕ
-byteOf x = pick (ltb x notGiven) x 255
+byteOf x = pick (ltb x notGiven) x unused

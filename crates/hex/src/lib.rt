@@ -7,8 +7,9 @@ ghost use lib.Dec.{eqb, ltb};
 ghost use lib.ListN.{length, getD, take, drop};
 ghost use Rattle.laws.specs.Lists.{tabulate, firstOf};
 ghost use Rattle.image.specs.Image.{imageBytes};
+ghost use Rattle.hex.specs.Digits.{bytesFrom};
 ghost use Rattle.hex.specs.Records.{records, byteIn};
-ghost use Rattle.hex.specs.Steps.{recordMost, digitTable, bytesFrom, sumFrom, pastEnd, recordAt, lineAt, notGiven, unfilled, storedAt, byteOf};
+ghost use Rattle.hex.specs.Steps.{recordMost, digitTable, sumFrom, pastEnd, recordAt, lineAt, notGiven, unfilled, storedAt, byteOf};
 ghost use Rattle.hex.specs.Reading.{mostText, answerOf, leftOf, said, verdict};
 
 mod digits;
@@ -251,5 +252,9 @@ fn copy_out(scratch: &[u16], image: &mut [u8])
 fn byte_of(x: u16) -> u8
     ensures { λ r. ⌜ r ≡ byteOf x ⌝ }
 {
-    if x < NOT_GIVEN { x as u8 } else { 255 }
+    if x < NOT_GIVEN {
+        x as u8
+    } else {
+        image::UNUSED
+    }
 }

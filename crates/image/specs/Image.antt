@@ -24,6 +24,13 @@ halfBytes = 4096
 abbrev pub stride : ℕ
 stride = 32
 
+-- a byte that holds nothing, FF, and the four upper bits of one that holds four bits of a row, F0
+abbrev pub unused : ℕ
+unused = 255
+
+abbrev pub upperBits : ℕ
+upperBits = 240
+
 -- the cell, and the row of that cell, whose bits an address can hold
 abbrev pub cellAt : ℕ → ℕ
 cellAt address = address % halfBytes / stride
@@ -37,11 +44,11 @@ hasRow address = both (ltb (cellAt address) fontCells) (ltb (rowAt address) cell
 
 -- what an address holds of a row: its low 8 bits, or its high 4 under four set bits
 unfoldable pub halfAt : ℕ → ℕ → ℕ
-halfAt address row = pick (ltb address halfBytes) (row % 256) (240 + row / 256)
+halfAt address row = pick (ltb address halfBytes) (row % 256) (upperBits + row / 256)
 
 -- the byte of a font's image at an address
 unfoldable pub dueAt : List ℕ → ℕ → ℕ
-dueAt font address = pick (hasRow address) (halfAt address (rowOf font (cellAt address) (rowAt address))) 255
+dueAt font address = pick (hasRow address) (halfAt address (rowOf font (cellAt address) (rowAt address))) unused
 
 -- the image of a font
 abbrev pub imageOf : List ℕ → List ℕ
@@ -61,7 +68,7 @@ fontOf image = tabulate fontRows (rowIn image)
 
 -- the least byte that has every bit set that must be set at an address, whatever the font: all eight, or the upper four, or none
 unfoldable pub leastAt : ℕ → ℕ
-leastAt address = pick (hasRow address) (pick (ltb address halfBytes) 0 240) 255
+leastAt address = pick (hasRow address) (pick (ltb address halfBytes) 0 upperBits) unused
 
 -- whether such a bit is missing
 abbrev pub lacksAt : List ℕ → ℕ → Bool

@@ -8,9 +8,14 @@ ghost use Rattle.image.specs.Image.{imageBytes, leastAt, lacksAt, firstL
 
 pub const IMAGE_BYTES: usize = 8192;
 
-const HALF_BYTES: usize = 4096;
+pub const HALF_BYTES: usize = 4096;
 
 const STRIDE: usize = 32;
+
+// A byte that holds nothing, and the four upper bits of one that holds four bits of a row.
+pub const UNUSED: u8 = 255;
+
+pub const UPPER_BITS: u8 = 240;
 
 pub enum Turned {
     Done,
@@ -61,7 +66,12 @@ fn whole_strides(image: &[u8]) -> usize
         if falls_below(image, at, font::CELL_ROWS, least(at)) {
             return at;
         }
-        if falls_below(image, at + font::CELL_ROWS, STRIDE - font::CELL_ROWS, 255) {
+        if falls_below(
+            image,
+            at + font::CELL_ROWS,
+            STRIDE - font::CELL_ROWS,
+            UNUSED,
+        ) {
             return at;
         }
         at += STRIDE;
@@ -90,15 +100,15 @@ fn least(address: usize) -> u8
     ensures { λ r. ⌜ r ≡ leastAt address ⌝ }
 {
     if font::FONT_CELLS <= address % HALF_BYTES / STRIDE {
-        return 255;
+        return UNUSED;
     }
     if font::CELL_ROWS <= address % STRIDE {
-        return 255;
+        return UNUSED;
     }
     if address < HALF_BYTES {
         return 0;
     }
-    240
+    UPPER_BITS
 }
 
 fn turn(image: &[u8], font: &mut [u16])

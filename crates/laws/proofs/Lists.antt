@@ -43,6 +43,11 @@ tabulate-cut zero n f le = refl
 tabulate-cut (suc m) zero f le = absurd (omega arith)
 tabulate-cut (suc m) (suc n) f le = ap (λ l. f 0 ∷ l) (tabulate-cut m n (λ k. f (suc k)) (omega arith))
 
+pub take-map : {A B : Type 0} (f : A → B) (k : ℕ) (l : List A) → take k (map f l) ≡ map f (take k l)
+take-map f zero l = refl
+take-map f (suc k) [] = refl
+take-map {B = B} f (suc k) (a ∷ l) = ap (λ (t : List B). f a ∷ t) (take-map f k l)
+
 pub tabulate-constant : {A : Type 0} (a : A) (n : ℕ) → replicate n a ≡ tabulate n (λ k. a)
 unfolding tabulate
 tabulate-constant a zero = refl

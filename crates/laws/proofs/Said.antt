@@ -5,6 +5,10 @@ use mathlib.Core.Path.{_≡_, _∙_, ap}
 use Prim.Native.Nat.{ℕ}
 use Rattle.laws.specs.Said.{Said}
 
+-- where the same is said the numbers are the same
+pub number-of : {s s′ : Said} → s ≡ s′ → s .number ≡ s′ .number
+number-of e = ap (λ (s : Said). s .number) e
+
 pub said-by : {s t v : Said} → t ≡ v → s .number ≡ t .number → s .place ≡ t .place → s .value ≡ t .value → s ≡ v
 said-by {s} {t} e number place value =
     ap (λ (n : ℕ). record { number = n; place = s .place; value = s .value }) number

@@ -21,10 +21,11 @@ use Rattle.laws.proofs.Sums.{sum-last}
 use Rattle.hex.specs.Digits.{among, digit, byteAt}
 use Rattle.hex.specs.Lines.{lines, onto, LF}
 use Rattle.hex.specs.Records.{colon, sumOf}
+use Rattle.hex.specs.Reading.{nth}
 use Rattle.writer.specs.Text.{digitText, bytesText, checksum, recordBytes, recordText, bytesIn, recordIn, endRecord, textOf}
 use Rattle.writer.proofs.Lists.{flat-append, flat-one}
 use Rattle.writer.proofs.Spelling.{bytes-length, end-line}
-use Rattle.roundtrip.specs.Form.{isUpper, spelled, IsDataLine, lineOf, HasWritersForm}
+use Rattle.roundtrip.specs.Form.{isUpper, spelled, IsDataLine, HasWritersForm}
 use Rattle.roundtrip.specs.RoundTrip.{IsImage, IsAnImagesText}
 use Rattle.roundtrip.proofs.Lines.{Small, colon-byte, lines-front, lines-one}
 use Rattle.roundtrip.proofs.Records.{small-tabulate, Parts, data-parts}
@@ -179,30 +180,30 @@ flat-same (suc n) f g h =
 -- a text of the form is the text of what its lines spell
 module _ (text : List ℕ) (form : HasWritersForm text) where
   rule : ℕ → ℕ
-  rule a = byteAt (lineOf text (a / 16)) (9 + 2 * (a % 16))
+  rule a = byteAt (nth (lines text) (a / 16)) (9 + 2 * (a % 16))
 
   rule-small : (a : ℕ) → a < 8192 → rule a < 256
   unfolding rule
   rule-small a h =
       let place : 1 + 2 * (4 + a % 16) ≡ 9 + 2 * (a % 16) = omega arith in
-      subst (λ (p : ℕ). byteAt (lineOf text (a / 16)) p < 256) place (byte-small (a / 16) (lineOf text (a / 16)) (form .each (a / 16) (omega arith)) (4 + a % 16) (omega arith))
+      subst (λ (p : ℕ). byteAt (nth (lines text) (a / 16)) p < 256) place (byte-small (a / 16) (nth (lines text) (a / 16)) (form .each (a / 16) (omega arith)) (4 + a % 16) (omega arith))
 
-  rule-at : (n i : ℕ) → n < 512 → i < 16 → getD (tabulate 8192 rule) (16 * n + i) 0 ≡ byteAt (lineOf text n) (9 + 2 * i)
+  rule-at : (n i : ℕ) → n < 512 → i < 16 → getD (tabulate 8192 rule) (16 * n + i) 0 ≡ byteAt (nth (lines text) n) (9 + 2 * i)
   unfolding rule
   rule-at n i h g =
       let line : (16 * n + i) / 16 ≡ n = omega arith in
       let place : (16 * n + i) % 16 ≡ i = omega arith in
-      getD-tabulate 8192 rule (16 * n + i) 0 (omega arith) ∙ ap (λ m. byteAt (lineOf text m) (9 + 2 * ((16 * n + i) % 16))) line ∙ ap (λ m. byteAt (lineOf text n) (9 + 2 * m)) place
+      getD-tabulate 8192 rule (16 * n + i) 0 (omega arith) ∙ ap (λ m. byteAt (nth (lines text) m) (9 + 2 * ((16 * n + i) % 16))) line ∙ ap (λ m. byteAt (nth (lines text) n) (9 + 2 * m)) place
 
-  line-is : (n : ℕ) → n < 512 → lineOf text n ≡ recordText (recordIn (tabulate 8192 rule) n)
+  line-is : (n : ℕ) → n < 512 → nth (lines text) n ≡ recordText (recordIn (tabulate 8192 rule) n)
   line-is n h =
-      line-text n (lineOf text n) (form .each n h)
-      ∙ ap recordText (spelled-is n (lineOf text n) (form .each n h) (tabulate 8192 rule) (λ i g. rule-at n i h g))
+      line-text n (nth (lines text) n) (form .each n h)
+      ∙ ap recordText (spelled-is n (nth (lines text) n) (form .each n h) (tabulate 8192 rule) (λ i g. rule-at n i h g))
 
-  lines-are : lines text ≡ tabulate 512 (lineOf text) ++ (recordText endRecord ∷ [])
+  lines-are : lines text ≡ tabulate 512 (nth (lines text)) ++ (recordText endRecord ∷ [])
   lines-are =
-      is-tabulate [] 513 (lineOf text) (lines text) (form .size) (λ k h. refl) ∙ tabulate-more 512 (lineOf text)
-      ∙ ap (λ (l : List ℕ). tabulate 512 (lineOf text) ++ (l ∷ [])) (form .last ∙ sym end-line)
+      is-tabulate [] 513 (nth (lines text)) (lines text) (form .size) (λ k h. refl) ∙ tabulate-more 512 (nth (lines text))
+      ∙ ap (λ (l : List ℕ). tabulate 512 (nth (lines text)) ++ (l ∷ [])) (form .last ∙ sym end-line)
 
   pub of-form : IsAnImagesText text
   unfolding textOf
@@ -212,8 +213,8 @@ module _ (text : List ℕ) (form : HasWritersForm text) where
         whole = record { size = length-tabulate 8192 rule; bytes = small-tabulate 8192 rule rule-small };
         is-text =
             sym (joined text) ∙ ap (flatMap (λ (l : List ℕ). l)) lines-are
-            ∙ flat-append (λ (l : List ℕ). l) (tabulate 512 (lineOf text)) (recordText endRecord ∷ [])
-            ∙ ap (λ (l : List ℕ). l ++ flatMap (λ (l : List ℕ). l) (recordText endRecord ∷ [])) (flat-same 512 (lineOf text) (recordIn (tabulate 8192 rule)) line-is)
+            ∙ flat-append (λ (l : List ℕ). l) (tabulate 512 (nth (lines text))) (recordText endRecord ∷ [])
+            ∙ ap (λ (l : List ℕ). l ++ flatMap (λ (l : List ℕ). l) (recordText endRecord ∷ [])) (flat-same 512 (nth (lines text)) (recordIn (tabulate 8192 rule)) line-is)
             ∙ ap (λ (l : List ℕ). flatMap recordText (tabulate 512 (recordIn (tabulate 8192 rule))) ++ l)
             (flat-one (λ (l : List ℕ). l) (recordText endRecord) ∙ sym (flat-one recordText endRecord))
             ∙ sym (flat-append recordText (tabulate 512 (recordIn (tabulate 8192 rule))) (endRecord ∷ []));

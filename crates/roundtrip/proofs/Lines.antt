@@ -87,11 +87,11 @@ byte-back (b ∷ bytes) small (suc i) h =
     rw (two, three) (byte-back bytes (λ k. small (suc k)) i (le-of-suc-le-suc h))
 
 -- a record: bytes, as many as the first asks for
-pub record Good (r : List ℕ) : Type 0 where
+pub record IsRecord (r : List ℕ) : Type 0 where
   pub small : Small r
   pub size : length r ≡ 5 + lengthOf r
 
-module _ (r : List ℕ) (good : Good r) where
+module _ (r : List ℕ) (good : IsRecord r) where
   pub colon-byte : (i : ℕ) → i < length r → byteAt (colon ∷ bytesText r) (1 + 2 * i) ≡ getD r i 0
   colon-byte i h =
       let one : 1 + 2 * i ≡ suc (2 * i) = omega arith in

@@ -19,7 +19,7 @@ use Rattle.hex.specs.Records.{lengthOf, addressOf, typeOf, sumOf, isEnd, gives,
 use Rattle.hex.specs.Reading.{nth, faultAt, stopsAt, stopOf, judged}
 use Rattle.hex.proofs.Faults.{is-end, other-type, fault-end, fault-none}
 use Rattle.writer.specs.Text.{checksum, recordBytes, bytesIn, recordIn, endRecord, recordsOf}
-use Rattle.roundtrip.proofs.Lines.{Small, Good}
+use Rattle.roundtrip.proofs.Lines.{Small, IsRecord}
 
 -- bytes one after the other
 small-cons : (b : ℕ) (l : List ℕ) → b < 256 → Small l → Small (b ∷ l)
@@ -38,7 +38,7 @@ small-tabulate (suc n) f h =
 
 -- what the reader finds in a record
 pub record Parts (kind address count : ℕ) (r : List ℕ) : Type 0 where
-  pub good : Good r
+  pub good : IsRecord r
   pub summed : sumOf r ≡ 0
   pub typed : typeOf r ≡ kind
   pub placed : addressOf r ≡ address
@@ -72,10 +72,10 @@ module _ (kind address count : ℕ) (r : List ℕ) (p : Parts kind address count
 
 -- records by a rule
 module _ (a : ℕ) where
-  given-none : (n : ℕ) (f : ℕ → List ℕ) → ((k : ℕ) → k < n → gives (f k) a ≡ false) → isGiven (tabulate n f) a ≡ false
+  rule-none : (n : ℕ) (f : ℕ → List ℕ) → ((k : ℕ) → k < n → gives (f k) a ≡ false) → isGiven (tabulate n f) a ≡ false
   unfolding tabulate isGiven
-  given-none zero f h = refl
-  given-none (suc n) f h = rw (h 0 (omega arith)) (given-none n (λ k. f (suc k)) (λ k l. h (suc k) (omega arith)))
+  rule-none zero f h = refl
+  rule-none (suc n) f h = rw (h 0 (omega arith)) (rule-none n (λ k. f (suc k)) (λ k l. h (suc k) (omega arith)))
 
   byte-first : (none n : ℕ) (f : ℕ → List ℕ) (rest : List (List ℕ)) (k : ℕ) → k < n → ((j : ℕ) → j < k → gives (f j) a ≡ false) → gives (f k) a ≡ true
       → byteIn none (tabulate n f ++ rest) a ≡ dataAt (f k) a
@@ -136,7 +136,7 @@ module _ (image : List ℕ) (small : Small image) where
       let p = data-parts k h in
       let r = recordIn image k in
       let fresh : firstOf (lengthOf r) (λ i. isGiven (tabulate k (recordIn image)) (addressOf r + i)) ≡ lengthOf r =
-      first-none (lengthOf r) _ (λ i g. given-none (addressOf r + i) k (recordIn image)
+      first-none (lengthOf r) _ (λ i g. rule-none (addressOf r + i) k (recordIn image)
       (λ j l. gives-later 0 (16 * j) 16 (recordIn image j) (data-parts j (omega arith)) (addressOf r + i) (omega (arith, p .placed)))) in
       fault-none (tabulate k (recordIn image)) r (omega (arith, p .good .size)) (p .summed)
       (other-type r (λ e. omega (arith, p .typed))) (p .typed) (omega (arith, p .placed, p .counted)) (omega (arith, fresh))

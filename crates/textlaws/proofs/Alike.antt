@@ -10,17 +10,16 @@ use native.Mathlib.Decide.{decLt}
 use native.Mathlib.Omega.{arith}
 use lib.ListN.{length, getD, drop, length-append, length-map, List·getD-append, List·getD-map}
 use lib.Seq.{ext-getD, take-at, drop-at}
-use Rattle.laws.specs.Said.{accepted}
 use Rattle.hex.specs.Lines.{Plain, lines, atEnd, bodyOf}
 use Rattle.hex.specs.Records.{records, recordOf}
-use Rattle.hex.specs.Reading.{verdict, imageIn}
 use Rattle.hex.specs.Steps.{endLength}
 use Rattle.hex.proofs.Lines.{lines-nil, body-cut, first-cut}
-use Rattle.textlaws.specs.Alike.{AlikeBodies, AlikeTexts, IsLineEnd, Line, whole, written, noLine, Ended}
+use Rattle.textlaws.specs.Alike.{AlikeBodies, IsLineEnd, Line, whole, written, noLine, Ended}
+use Rattle.textlaws.specs.Laws.{AlikeRecords, AlikeSame, EndedBody, WrittenAlike}
 use Rattle.textlaws.proofs.Same.{alike-spells, same-verdict, same-image}
 
 -- the same records
-pub alike-records : (text text′ : List ℕ) → AlikeTexts text text′ → records text ≡ records text′
+pub alike-records : AlikeRecords
 alike-records text text′ alike =
     ext-getD (recordOf []) (records text) (records text′) (length-map (lines text) recordOf ∙ alike .size ∙ sym (length-map (lines text′) recordOf)) (λ k h.
     List·getD-map recordOf (lines text) k []
@@ -28,13 +27,13 @@ alike-records text text′ alike =
     ∙ sym (List·getD-map recordOf (lines text′) k []))
 
 -- so the one is accepted where the other is, with the same count, and they have one image
-pub alike-same : (text text′ : List ℕ) → AlikeTexts text text′ → ((n : ℕ) → verdict text ≡ accepted n → verdict text′ ≡ accepted n) × (imageIn text ≡ imageIn text′)
+pub alike-same : AlikeSame
 alike-same text text′ alike =
     let same = alike-records text text′ alike in
     (λ n. same-verdict text text′ n same, same-image text text′ same)
 
 -- a line's end is not part of its body: LF, CR LF or none
-pub ended-body : (body end : List ℕ) → ((k : ℕ) → k < length body → Plain (getD body k 0)) → atEnd end ≡ true → bodyOf (body ++ end) ≡ body
+pub ended-body : EndedBody
 ended-body body end plain e =
     body-cut (length body) (body ++ end) (omega (arith, length-append body end))
     (λ k h. rw (List·getD-append body end 0 k h) (plain k h))
@@ -118,8 +117,7 @@ module _ (ls : List Line) (ended : Ended ls) where
       ∙ ended-body (getD ls k noLine .body) (getD ls k noLine .end) (ended .plain k h) (line-ends k h)
 
 -- texts put together from alike bodies are alike, whatever ends their lines have
-pub written-alike : (ls ls′ : List Line) → Ended ls → Ended ls′ → length ls ≡ length ls′
-    → ((k : ℕ) → k < length ls → AlikeBodies (getD ls k noLine .body) (getD ls′ k noLine .body)) → AlikeTexts (written ls) (written ls′)
+pub written-alike : WrittenAlike
 written-alike ls ls′ ended ended′ same alike =
     record {
       size = lines-size ls ended ∙ same ∙ sym (lines-size ls′ ended′);

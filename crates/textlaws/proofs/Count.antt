@@ -15,8 +15,9 @@ use Rattle.laws.proofs.Lists.{tabulate-same}
 use Rattle.laws.proofs.Sums.{sum-both, sum-none, sum-span}
 use Rattle.hex.specs.Lines.{lines}
 use Rattle.hex.specs.Records.{records, lengthOf, addressOf, gives, isGiven, countOf}
-use Rattle.hex.specs.Reading.{nth, verdict, imageIn}
-use Rattle.textlaws.proofs.Order.{Apart, Good, Reordered, good-of, good-judged, reordered-good, order-verdict, none-given, given-none, not-there, from-within}
+use Rattle.hex.specs.Reading.{nth}
+use Rattle.textlaws.specs.Laws.{Reordered, OrderSame}
+use Rattle.textlaws.proofs.Order.{Apart, Good, good-of, good-judged, reordered-good, order-verdict, none-given, given-none, not-there, from-within}
 
 abbrev one : Bool → ℕ
 one b = pick b 1 0
@@ -69,15 +70,14 @@ module _ (rs rs′ : List (List ℕ)) (order : Reordered rs rs′) (all : Good r
       go false true f g = sym (f refl)
       go false false f g = refl
 
-  pub reordered-count : countOf rs ≡ countOf rs′
+  reordered-count : countOf rs ≡ countOf rs′
   unfolding givenCount
   reordered-count =
       good-count rs all ∙ ap sumAll (tabulate-same 8192 _ _ (λ a h. ap one (same-given a))) ∙ sym (good-count rs′ (reordered-good rs rs′ order all))
 
 -- of texts: where one is accepted, one with its records in another order, the end record last, is accepted with the same count and the same
 -- image
-pub order-same : (text text′ : List ℕ) (n : ℕ) → Reordered (records text) (records text′) → verdict text ≡ accepted n
-    → (verdict text′ ≡ accepted n) × (imageIn text ≡ imageIn text′)
+pub order-same : OrderSame
 order-same text text′ n order e =
     let all = good-of text n e in
     let told = order-verdict text text′ n order e in

@@ -14,15 +14,16 @@ use lib.ListN.{length, take}
 use lib.Seq.{getD-take, length-take-le}
 use borrow.Author.Tests.{ltb-true, ltb-false, lt-ltb, le-ltb, eqb-true, eqb-false, eq-eqb, ne-eqb}
 use Rattle.laws.specs.Pick.{pick}
-use Rattle.laws.specs.Said.{Said, accepted, refused}
+use Rattle.laws.specs.Said.{accepted, refused}
 use Rattle.laws.specs.Lists.{tabulate, firstOf}
 use Rattle.laws.proofs.Lists.{first-is, first-none, first-before, first-at, first-most, tabulate-same}
-use Rattle.laws.proofs.Placing.{span-has}
-use Rattle.laws.proofs.Placing.{span-in}
+use Rattle.laws.proofs.Placing.{span-has, span-in}
+use Rattle.laws.proofs.Said.{number-of}
 use Rattle.hex.specs.Lines.{lines, placeOf}
 use Rattle.hex.specs.Records.{records, lengthOf, addressOf, typeOf, sumOf, isEnd, gives, dataAt, byteIn, isGiven, freshIn, countOf, faultOf}
 use Rattle.hex.specs.Reading.{nth, faultAt, stopsAt, stopOf, judged, verdict, imageIn}
 use Rattle.hex.proofs.Given.{in-none}
+use Rattle.textlaws.specs.Laws.{Reordered}
 
 -- a record that is good by itself
 pub record Fine (r : List ℕ) : Type 0 where
@@ -152,9 +153,6 @@ good-of text n e =
     go (ltb (stopOf (records text)) (length (records text))) refl (ltb 0 (faultAt (records text) (stopOf (records text)))) refl
     (ltb (stopOf (records text) + 1) (length (records text))) refl e
   where
-    number : {s s′ : Said} → s ≡ s′ → s .number ≡ s′ .number
-    number e = ap (λ (s : Said). s .number) e
-
     stops : (b : Bool) → ltb 0 (faultAt (records text) (stopOf (records text))) ≡ b → b ≡ false
         → pick b true (isEnd (nth (records text) (stopOf (records text)))) ≡ true → isEnd (nth (records text) (stopOf (records text))) ≡ true
     stops true h e t = absurd (false≢true (sym e))
@@ -165,9 +163,9 @@ good-of text n e =
         → pick a (pick f (refused (faultAt (records text) (stopOf (records text))) (placeOf (lines text) (stopOf (records text))))
         (pick l (refused 12 (placeOf (lines text) (stopOf (records text) + 1))) (accepted (countOf (records text))))) (refused 12 (placeOf (lines text) (stopOf (records text)))) ≡ accepted n
         → Good (records text)
-    go false ea f ef l el e = absurd (omega (arith, number e))
-    go true ea true ef l el e = absurd (omega (arith, number e, ltb-true 0 (faultAt (records text) (stopOf (records text))) ef))
-    go true ea false ef true el e = absurd (omega (arith, number e))
+    go false ea f ef l el e = absurd (omega (arith, number-of e))
+    go true ea true ef l el e = absurd (omega (arith, number-of e, ltb-true 0 (faultAt (records text) (stopOf (records text))) ef))
+    go true ea false ef true el e = absurd (omega (arith, number-of e))
     go true ea false ef false el e =
         let below : stopOf (records text) < length (records text) = ltb-true _ _ ea in
         let most : length (records text) ≤ stopOf (records text) + 1 = ltb-false _ _ el in
@@ -195,18 +193,6 @@ module _ (rs : List (List ℕ)) (all : Good rs) where
   unfolding judged
   good-judged ls =
       rw (good-stop, lt-ltb (all .last) (length rs) (omega (arith, all .size)), good-fault (all .last) (omega arith), le-ltb (all .last + 1) (length rs) (omega (arith, all .size)))
-
--- the same records, those before the last in another order
-pub record Reordered (rs rs′ : List (List ℕ)) : Type 0 where
-  pub size : length rs ≡ length rs′
-  pub to : ℕ → ℕ
-  pub from : ℕ → ℕ
-  pub from-to : (j : ℕ) → from (to j) ≡ j
-  pub to-from : (j : ℕ) → to (from j) ≡ j
-  pub within : (j : ℕ) → j + 1 < length rs → to j + 1 < length rs
-  pub back : (j : ℕ) → j + 1 < length rs → from j + 1 < length rs
-  pub last : (j : ℕ) → j + 1 ≡ length rs → to j ≡ j
-  pub same : (j : ℕ) → j < length rs → nth rs′ j ≡ nth rs (to j)
 
 module _ (rs rs′ : List (List ℕ)) (order : Reordered rs rs′) (all : Good rs) where
   to-within : (j : ℕ) → j ≤ all .last → order .to j ≤ all .last
@@ -284,7 +270,7 @@ module _ (rs rs′ : List (List ℕ)) (order : Reordered rs rs′) (all : Good r
       given-none rs a e (order .to j) (omega arith) (sym (ap (λ (x : List ℕ). gives x a) (order .same j (omega arith))) ∙ g))
 
   -- the image is the same
-  pub reordered-byte : (a : ℕ) → byteIn 255 rs a ≡ byteIn 255 rs′ a
+  reordered-byte : (a : ℕ) → byteIn 255 rs a ≡ byteIn 255 rs′ a
   reordered-byte a = go (decLt (firstOf (length rs) (λ j. gives (nth rs j) a)) (length rs))
     where
       go : Dec (firstOf (length rs) (λ j. gives (nth rs j) a) < length rs) → byteIn 255 rs a ≡ byteIn 255 rs′ a
@@ -297,7 +283,7 @@ module _ (rs rs′ : List (List ℕ)) (order : Reordered rs rs′) (all : Good r
           false≢true (sym (first-before (length rs) (λ j. gives (nth rs j) a) j (omega arith)) ∙ g)) in
           in-none 255 rs a none ∙ sym (in-none 255 rs′ a (not-there a none))
 
-  pub reordered-image : tabulate 8192 (byteIn 255 rs) ≡ tabulate 8192 (byteIn 255 rs′)
+  reordered-image : tabulate 8192 (byteIn 255 rs) ≡ tabulate 8192 (byteIn 255 rs′)
   reordered-image = tabulate-same 8192 (byteIn 255 rs) (byteIn 255 rs′) (λ a h. reordered-byte a)
 
 -- of texts: where one is accepted so is one with its records in another order, the end record last, and the two have one image

@@ -11,38 +11,37 @@ use lib.ListN.{length, getD, drop, length-drop}
 use lib.Seq.{getD-drop}
 use borrow.Author.Tests.{ltb-true}
 use Rattle.laws.specs.Pick.{pick}
-use Rattle.laws.specs.Said.{Said, accepted, refused}
+use Rattle.laws.specs.Said.{accepted, refused}
 use Rattle.laws.specs.Lists.{tabulate}
 use Rattle.laws.proofs.Lists.{tabulate-same}
+use Rattle.laws.proofs.Said.{number-of}
 use Rattle.hex.specs.Digits.{digit, byteAt}
 use Rattle.hex.specs.Lines.{lines, placeOf}
 use Rattle.hex.specs.Records.{records, spelledBy, isShaped, allDigits, byteIn, countOf}
-use Rattle.hex.specs.Reading.{faultAt, stopOf, judged, verdict, imageIn}
+use Rattle.hex.specs.Reading.{faultAt, stopOf, judged}
 use Rattle.textlaws.specs.Alike.{AlikeBodies}
+use Rattle.textlaws.specs.Laws.{SameVerdict, SameImage, CasesAlike, AlikeSpells}
 
 -- whether lines are judged good depends on their records
 judged-same : (ls ls′ rs : List (List ℕ)) (k n : ℕ) → judged ls rs k ≡ accepted n → judged ls′ rs k ≡ accepted n
 unfolding judged
 judged-same ls ls′ rs k n e = go (ltb k (length rs)) (ltb 0 (faultAt rs k)) refl (ltb (k + 1) (length rs)) e
   where
-    number : {s s′ : Said} → s ≡ s′ → s .number ≡ s′ .number
-    number e = ap (λ (s : Said). s .number) e
-
     go : (a f : Bool) → ltb 0 (faultAt rs k) ≡ f → (l : Bool)
         → pick a (pick f (refused (faultAt rs k) (placeOf ls k)) (pick l (refused 12 (placeOf ls (k + 1))) (accepted (countOf rs)))) (refused 12 (placeOf ls k)) ≡ accepted n
         → pick a (pick f (refused (faultAt rs k) (placeOf ls′ k)) (pick l (refused 12 (placeOf ls′ (k + 1))) (accepted (countOf rs)))) (refused 12 (placeOf ls′ k)) ≡ accepted n
-    go true true h l e = absurd (omega (arith, number e, ltb-true 0 (faultAt rs k) h))
-    go true false h true e = absurd (omega (arith, number e))
+    go true true h l e = absurd (omega (arith, number-of e, ltb-true 0 (faultAt rs k) h))
+    go true false h true e = absurd (omega (arith, number-of e))
     go true false h false e = e
-    go false f h l e = absurd (omega (arith, number e))
+    go false f h l e = absurd (omega (arith, number-of e))
 
 -- two texts with the same records: where one is accepted so is the other, unless it is too long, with the same count; and they spell the
 -- same image
-pub same-verdict : (text text′ : List ℕ) (n : ℕ) → records text ≡ records text′ → verdict text ≡ accepted n → verdict text′ ≡ accepted n
+pub same-verdict : SameVerdict
 same-verdict text text′ n e h =
     ap (λ (rs : List (List ℕ)). judged (lines text′) rs (stopOf rs)) (sym e) ∙ judged-same (lines text) (lines text′) (records text) (stopOf (records text)) n h
 
-pub same-image : (text text′ : List ℕ) → records text ≡ records text′ → imageIn text ≡ imageIn text′
+pub same-image : SameImage
 same-image text text′ e = ap (λ (rs : List (List ℕ)). tabulate 8192 (byteIn 255 rs)) e
 
 all-alike : (l l′ : List ℕ) → length l ≡ length l′ → ((k : ℕ) → digit (getD l k 0) ≡ digit (getD l′ k 0)) → allDigits l ≡ allDigits l′
@@ -70,14 +69,17 @@ module _ (body body′ : List ℕ) (alike : AlikeBodies body body′) where
       )
 
   -- they are the same record
-  pub alike-spells : spelledBy body ≡ spelledBy body′
+  one-record : spelledBy body ≡ spelledBy body′
   unfolding spelledBy
-  alike-spells =
+  one-record =
       rw (shaped-alike, bytes-alike 0)
       (ap (λ (l : List ℕ). pick (isShaped body′) l []) (tabulate-same (5 + byteAt body′ 1) _ _ (λ i h. bytes-alike (2 * i))))
 
+pub alike-spells : AlikeSpells
+alike-spells = one-record
+
 -- upper and lower case are one digit
-pub cases-alike : (c : ℕ) → c < 6 → digit (65 + c) ≡ digit (97 + c)
+pub cases-alike : CasesAlike
 unfolding digit
 cases-alike c h = go c h
   where

@@ -1,5 +1,5 @@
 -- Texts that say the same with digits of another case or with other line ends: document 01, 'The character image', second paragraph.
--- proofs/Alike.antt proves that such texts have the same records, line by line, so that they are accepted alike and have one image.
+-- Laws.antt says that such texts have the same records, line by line, so that they are accepted alike and have one image.
 -- Assumes nothing.
 use Prim.Native.Nat.{ℕ, _+_, _<_}
 use mathlib.Core.Path.{_≡_}

@@ -22,17 +22,17 @@ unfolding flatMap
 bytes-length [] = refl
 bytes-length (b ∷ bytes) = omega (arith, bytes-length bytes, mul-suc 2 (length bytes))
 
-pub record-length : (kind address : ℕ) (bytes : List ℕ) → length (recordText (recordBytes kind address bytes)) ≡ 12 + 2 * length bytes
+record-length : (kind address : ℕ) (bytes : List ℕ) → length (recordText (recordBytes kind address bytes)) ≡ 12 + 2 * length bytes
 unfolding recordText recordBytes
 record-length kind address bytes = simp (length-append, bytes-length) (omega arith)
 
 -- a record's line by its parts
 module _ (kind address : ℕ) (bytes : List ℕ) where
-  pub record-parts : recordText (recordBytes kind address bytes)
+  pub line-parts : recordText (recordBytes kind address bytes)
       ≡ frontText (length bytes) (address / 256) (address % 256) kind
       ++ (bytesText bytes ++ backText (sumAll (length bytes ∷ address / 256 ∷ address % 256 ∷ kind ∷ bytes) % 256))
   unfolding recordText recordBytes frontText backText
-  record-parts =
+  line-parts =
       let front = length bytes ∷ address / 256 ∷ address % 256 ∷ kind ∷ [] in
       let check = checksum (sumOf (front ++ bytes)) in
       ap (λ (l : List ℕ). colon ∷ l ++ (LF ∷ []))
@@ -56,7 +56,7 @@ pub record-stored : (t : List ℕ) (at address : ℕ) (bytes : List ℕ) (sum : 
     → sets (sets (sets t at (frontText 16 (address / 256) (address % 256) 0)) (at + 9) (bytesText bytes)) (at + 9 + 32) (backText sum)
     ≡ sets t at (recordText (recordBytes 0 address bytes))
 record-stored t at address bytes sum size e =
-    rw (record-parts 0 address bytes, size, e)
+    rw (line-parts 0 address bytes, size, e)
     (sets-three t at (at + 9) (at + 9 + 32) (frontText 16 (address / 256) (address % 256) 0) (bytesText bytes)
     (backText (sumAll (16 ∷ address / 256 ∷ address % 256 ∷ 0 ∷ bytes) % 256)) (front-length at 16 (address / 256) (address % 256) 0) (omega (arith, bytes-length bytes)))
 

@@ -11,20 +11,22 @@ ghost use Rattle.writer.specs.Text.{digitText, byteText, bytesText, reco
 ghost use Rattle.writer.specs.Writing.{answerOf, leftOf, said};
 ghost use Rattle.writer.specs.Steps.{frontText, backText, frontBytes, backBytes, lineBytes, rowsIn};
 
-// 512 records, and the end record's 12 bytes.
-const TEXT_BYTES: usize = 22540;
-
-const RECORDS: usize = 512;
-
-// A record's text, and that of its front: colon, length, address and type.
-const RECORD_TEXT: usize = 44;
-
-const FRONT_TEXT: usize = 9;
-
 // A record's data. A cell has two records in each half of the image.
 const RECORD_BYTES: usize = 16;
 
-const HALF_RECORDS: usize = 256;
+const RECORDS: usize = image::IMAGE_BYTES / RECORD_BYTES;
+
+const HALF_RECORDS: usize = image::HALF_BYTES / RECORD_BYTES;
+
+// The text of a record's front (colon, length, address and type), of its back (checksum and line end), and of a data record.
+const FRONT_TEXT: usize = 9;
+
+const BACK_TEXT: usize = 3;
+
+const RECORD_TEXT: usize = FRONT_TEXT + 2 * RECORD_BYTES + BACK_TEXT;
+
+// The data records' text, and the end record's.
+const TEXT_BYTES: usize = RECORD_TEXT * RECORDS + FRONT_TEXT + BACK_TEXT;
 
 pub enum Written {
     Done,
@@ -116,8 +118,8 @@ fn put_data(font: &[u16], n: usize, text: &mut [u8], at: usize) -> u8
         i += 1;
     }
     while i < RECORD_BYTES {
-        put_byte(text, at + 2 * i, 255);
-        sum = std::num::wrapping_add_u8(sum, 255);
+        put_byte(text, at + 2 * i, image::UNUSED);
+        sum = std::num::wrapping_add_u8(sum, image::UNUSED);
         i += 1;
     }
     sum
@@ -144,7 +146,7 @@ fn half_of(row: u16, n: usize) -> u8
     if n < HALF_RECORDS {
         return (row % 256) as u8;
     }
-    240 + (row / 256) as u8
+    image::UPPER_BITS + (row / 256) as u8
 }
 
 fn put_byte(text: &mut [u8], at: usize, byte: u8)

@@ -124,7 +124,7 @@ same-length-8 : tie.Need-same-length-8 Inv-loop μ-loop
 same-length-8 c = search needs
 
 returns-4 : tie.Need-returns-4 Inv-loop μ-loop
-returns-4 c = let first = c .before .before .before .before .before .before .before in (said-by (met-far-end (met (first .before .before)) (first .if1 .left) (c .before .before .if2 .taken) (c .before .if3 .left) (c .if4 .taken)) (omega arith) (omega arith) (omega arith), λ e. absurd (omega arith))
+returns-4 c = let first = c .before .before .before .before .before .before .before in (said-by (met-far-end (met (first .before .before)) (first .if1 .left) (c .before .before .if2 .taken) (c .before .if3 .left) (λ e. omega arith)) (omega arith) (omega arith) (omega arith), λ e. absurd (omega arith))
 
 cast-t31 : tie.Need-cast-t31 Inv-loop μ-loop
 cast-t31 c = search needs
@@ -136,7 +136,7 @@ same-length-10 : tie.Need-same-length-10 Inv-loop μ-loop
 same-length-10 c = search needs
 
 returns-5 : tie.Need-returns-5 Inv-loop μ-loop
-returns-5 c = let first = c .before .before .before .before .before .before .before .before in (said-by (met-more (met (first .before .before)) (first .if1 .left) (c .before .before .before .if2 .taken) (c .before .before .if3 .left) (c .before .if4 .left) (c .if5 .taken)) (omega arith) (omega arith) (omega arith), λ e. absurd (omega arith))
+returns-5 c = let first = c .before .before .before .before .before .before .before .before in (said-by (met-more (met (first .before .before)) (first .if1 .left) (c .before .before .before .if2 .taken) (c .before .before .if3 .left) (omega arith) (c .if5 .taken)) (omega arith) (omega arith) (omega arith), λ e. absurd (omega arith))
 
 same-length-11 : tie.Need-same-length-11 Inv-loop μ-loop
 same-length-11 c = search needs
@@ -146,7 +146,7 @@ same-length-12 c = search needs
 
 returns-6 : tie.Need-returns-6 Inv-loop μ-loop
 returns-6 c = let first = c .before .before .before .before .before .before .before .before in
-    (said-by (met-done (met (first .before .before)) (first .if1 .left) (c .before .before .before .if2 .taken) (c .before .before .if3 .left) (c .before .if4 .left) (c .if5 .left)) (omega arith) (omega arith) (omega arith), λ e. met-all (met (first .before .before)) (first .if1 .left) (c .before .before .before .if2 .taken) (c .before .before .if3 .left) (c .before .if4 .left) (c .if5 .left))
+    (said-by (met-done (met (first .before .before)) (first .if1 .left) (c .before .before .before .if2 .taken) (c .before .before .if3 .left) (omega arith) (c .if5 .left)) (omega arith) (omega arith) (omega arith), λ e. met-all (met (first .before .before)) (first .if1 .left) (c .before .before .before .if2 .taken) (c .before .before .if3 .left) (omega arith) (c .if5 .left))
 
 cast-t32 : tie.Need-cast-t32 Inv-loop μ-loop
 cast-t32 c = search needs

@@ -2,9 +2,8 @@
 -- Assumes nothing.
 use borrow.Author.Needs.{needs}
 use Rattle.hex.proofs.Steps.{table-digit, sum-bad, sum-good, sum-more, digits-more}
-use Rattle.hex.specs.Steps.{bytesFrom}
 use Rattle.laws.specs.Sums.{sumAll}
-use Rattle.hex.specs.Digits.{digit, byteAt}
+use Rattle.hex.specs.Digits.{digit, byteAt, bytesFrom}
 use Rattle.laws.proofs.Lists.{Filled, filled-none, filled-more, filled-all, length-tabulate}
 use native.Mathlib.Omega.{arith}
 use lib.Seq.{take-at}

@@ -7,18 +7,19 @@ use native.Mathlib.Omega.{arith}
 use borrow.Author.Tests.{lt-ltb, le-ltb}
 use lib.ListN.{length}
 use mathlib.Core.Path.{_≡_, refl, _∙_, ap}
+use Prim.Native.Nat.{_<_}
 use borrow.Author.Needs.{needs}
 use Rattle.hex.proofs.read.Statement.{statement}
 use Rattle.hex.proofs.read.Tie as tie
 
 returns : tie.Need-returns
 unfolding answerOf leftOf
-returns c = let a = c .before .before .before .args in let e = lt-ltb (length (a .image .now)) 8192 (c .if1 .taken) in (simp e, simp e)
+returns c = let a = c .before .before .before .args in let short : length (a .image .now) < 8192 = omega arith in let e = lt-ltb (length (a .image .now)) 8192 short in (simp e, simp e)
 
 returns-2 : tie.Need-returns-2
 unfolding answerOf leftOf
 returns-2 c = let a = c .before .before .before .before .args in
-    let e = le-ltb (length (a .image .now)) 8192 (c .before .if1 .left) in let f = lt-ltb 65535 (length (a .text .now)) (c .if2 .taken) in
+    let e = le-ltb (length (a .image .now)) 8192 (c .before .if1 .left) in let over : 65535 < length (a .text .now) = omega arith in let f = lt-ltb 65535 (length (a .text .now)) over in
     (simp (e, f), simp (e, f))
 
 slice-aggregate-collect : tie.Need-slice-aggregate-collect
