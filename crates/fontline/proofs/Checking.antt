@@ -7,6 +7,7 @@ use native.Mathlib.Omega.{arith}
 use lib.ListN.{length, drop-of-length-le}
 use borrow.Author.Tests.{eq-eqb, ne-eqb}
 use Rattle.laws.specs.Said.{Said, accepted, refused}
+use Rattle.laws.proofs.Said.{number-of}
 use Rattle.font.specs.Font.{fontRows}
 use Rattle.image.specs.Image.{imageBytes}
 use Rattle.image.specs.Image.{answerOf as turning}
@@ -15,9 +16,6 @@ use Rattle.hex.specs.Reading.{answerOf as reading}
 use Rattle.answer.specs.Told.{told}
 use Rattle.answer.specs.declared.Answer.{Answer}
 use Rattle.fontline.specs.Lines.{checked, lineFor}
-
-number-of : {s s′ : Said} → s ≡ s′ → s .number ≡ s′ .number
-number-of e = ap (λ (s : Said). s .number) e
 
 -- an accepted text fills a room of 8,192 bytes with its image
 pub image-read : (text room : List ℕ) → length room ≡ imageBytes → reading text (length room) .number ≡ 0 → leftOf text room ≡ imageIn text
