@@ -1,13 +1,19 @@
 /*
  * Dirgeflint: what the PCA84C646 shows on the screen and puts out as pulses.
  *
- * Every function takes every input and always returns. None allocates, none keeps state of its own, so all may be
- * called from any thread as long as no two calls share memory that one of them writes.
+ * All that a host needs stands in this file; docs/GUIDE.md goes through a screen, a font and a tuning step from nothing.
  *
- * Pointers are the host's part: each must be valid and aligned for its type, and point to memory that does not overlap
- * anything else lent to the same call; where the length is 0 it may be anything but null. A bool must hold 0 or 1.
+ * Every function takes every input and always returns. None allocates and none keeps state of its own, so all may be called from any
+ * thread as long as no two calls share memory that one of them writes.
  *
- * Link with libdirgeflint.a (README.md says how it is made).
+ * Pointers are the host's part: each must be valid and aligned for its type, and point to memory that does not overlap anything else
+ * lent to the same call; where the length is 0 it may be anything but null. A bool must hold 0 or 1. A number of 32 bits is all that a
+ * call sees: a host with a larger one must test it first, as C cuts it without a word.
+ *
+ * The remarks that begin with "On a set" tell where a real chip may show or tune otherwise than this library says. The library goes by
+ * its customer's rules, and the data sheets do not always agree with them or with each other: docs/SOURCES.md has every such point.
+ *
+ * Link with -ldirgeflint (README.md says how the library is made and installed).
  */
 #ifndef DIRGEFLINT_H
 #define DIRGEFLINT_H
@@ -16,17 +22,86 @@
 #include <stddef.h>
 #include <stdint.h>
 
+/* The minor number goes up when something is added, the major one when a host has to be compiled again. CHANGELOG.md tells what changed. */
+#define DIRGEFLINT_VERSION_MAJOR 1
+#define DIRGEFLINT_VERSION_MINOR 0
+#define DIRGEFLINT_VERSION "1.0"
+
 #ifdef __cplusplus
 extern "C" {
 #endif
 
+/* Sizes and limits. */
+enum {
+    DIRGEFLINT_WORDS = 64,          /* words of the display RAM */
+    DIRGEFLINT_MOST_WORD = 1023,    /* a word has 10 bits */
+    DIRGEFLINT_CELLS = 62,          /* cells of a font */
+    DIRGEFLINT_CELL_ROWS = 18,      /* rows of a cell, the top one first */
+    DIRGEFLINT_CELL_DOTS = 12,      /* dots of a row, the leftmost in bit 11 */
+    DIRGEFLINT_FONT_ROWS = 1116,    /* rows of a font: row l of cell c is at 18c + l */
+    DIRGEFLINT_MOST_ROW = 4095,     /* a row has 12 bits */
+    DIRGEFLINT_MOST_LINE = 1023,    /* the last scan line that is painted */
+    DIRGEFLINT_MOST_WIDTH = 1024,   /* dots of the widest line */
+    DIRGEFLINT_IMAGE_BYTES = 8192,  /* bytes of a character image */
+    DIRGEFLINT_TEXT_BYTES = 22540,  /* bytes of the text that dirgeflint_hex_write gives */
+    DIRGEFLINT_MOST_TEXT = 65535,   /* bytes of the longest text that dirgeflint_hex_read looks at */
+    DIRGEFLINT_CHANNELS = 8,        /* small pulse outputs */
+    DIRGEFLINT_SUB_PERIOD = 128,    /* clocks of a sub-period of the DAC */
+    DIRGEFLINT_SUB_PERIODS = 128,   /* sub-periods of a period */
+    DIRGEFLINT_PERIOD = 16384       /* clocks of a period, and of the longest play */
+};
+
+/* The numbers of refusals. Each function lists its own, in the order in which they are tested. */
+enum {
+    DIRGEFLINT_ACCEPTED = 0,
+    DIRGEFLINT_BAD_SETTING = 1,      /* paint: mode, colour, h, v, ratio or frequency out of range */
+    DIRGEFLINT_RESERVED_RATIO = 2,   /* paint: blink ratio 3 */
+    DIRGEFLINT_BAD_WORDS = 3,        /* paint: not 64 words, or a word above 1023 */
+    DIRGEFLINT_BAD_FONT = 4,         /* paint, write: not 1,116 rows, or a row above 4095 */
+    DIRGEFLINT_BAD_LINE = 5,         /* paint: line above 1023, or width above 1024 */
+    DIRGEFLINT_NO_ROOM = 6,          /* paint, write, read: the output is too short */
+    DIRGEFLINT_BAD_SHAPE = 7,        /* read: text above 65,535 bytes, or a line that is no record */
+    DIRGEFLINT_BAD_SUM = 8,          /* read: a record's bytes do not sum to 0 */
+    DIRGEFLINT_BAD_TYPE = 9,         /* read: a record type other than 00 and 01, or a bad end record */
+    DIRGEFLINT_PAST_IMAGE = 10,      /* read: a record that goes past address 8,192 */
+    DIRGEFLINT_GIVEN_TWICE = 11,     /* read: a byte that an earlier record gives already */
+    DIRGEFLINT_BAD_END = 12,         /* read: no end record, or bytes after its line */
+    DIRGEFLINT_NO_FONT = 13,         /* image to font: wrong lengths, or the image is no font's */
+    DIRGEFLINT_TOO_MANY_CLOCKS = 14, /* play: above 16,384 clocks, or above the room lent */
+    DIRGEFLINT_BAD_CLOCK = 15        /* pulse level: channel above 7, or clock outside its period */
+};
+
+/* The reason for a number, in words, for a message; never null. */
+static inline const char *dirgeflint_reason(uint32_t number)
+{
+    switch (number) {
+    case DIRGEFLINT_ACCEPTED: return "accepted";
+    case DIRGEFLINT_BAD_SETTING: return "a setting is out of its range (mode 0 to 3, colour 0 to 7, h and v 0 to 63, ratio 0 to 2, frequency 0 to 3)";
+    case DIRGEFLINT_RESERVED_RATIO: return "blink ratio 3 is reserved: use 0, 1 or 2";
+    case DIRGEFLINT_BAD_WORDS: return "there must be 64 words, each at most 1023";
+    case DIRGEFLINT_BAD_FONT: return "there must be 1,116 font rows, each at most 4095";
+    case DIRGEFLINT_BAD_LINE: return "the line is above 1023 or the width above 1024";
+    case DIRGEFLINT_NO_ROOM: return "the room for the output is too short";
+    case DIRGEFLINT_BAD_SHAPE: return "the text is longer than 65,535 bytes, or this line is no record: a colon, then two digits for each byte, as many as the length says";
+    case DIRGEFLINT_BAD_SUM: return "the checksum is wrong: the record's bytes do not sum to 0";
+    case DIRGEFLINT_BAD_TYPE: return "the record type is neither 00 nor 01, or an end record has data or an address";
+    case DIRGEFLINT_PAST_IMAGE: return "the record goes past the image's 8,192 bytes";
+    case DIRGEFLINT_GIVEN_TWICE: return "an earlier record gives a byte of this one already";
+    case DIRGEFLINT_BAD_END: return "the end record is missing, or something follows its line";
+    case DIRGEFLINT_NO_FONT: return "the image is no font's: a bit is clear where a font's image has it set, or a length is wrong";
+    case DIRGEFLINT_TOO_MANY_CLOCKS: return "more clocks than 16,384, or than the room holds";
+    case DIRGEFLINT_BAD_CLOCK: return "the channel is above 7, or the clock is outside the channel's period";
+    default: return "no such number";
+    }
+}
+
 /*
  * What a call that can refuse answers.
  *
- * number  0 if the call was accepted; else the number of the refusal, listed beside each function.
+ * number  DIRGEFLINT_ACCEPTED (0) if the call was accepted; else the number of the refusal, listed beside each function.
  *         Where several apply, the one listed first is given.
  * place   where the fault is, as listed; 0 if nothing is listed, and 0 if the call was accepted.
- * value   what an accepted call gives; 0 if the call was refused.
+ * value   what an accepted call gives; 0 if nothing is listed, and 0 if the call was refused.
  *
  * A refused call changes nothing that was lent to it.
  */
@@ -37,20 +112,41 @@ typedef struct dirgeflint_answer {
 } dirgeflint_answer;
 
 /*
- * The eight small outputs: the level of a channel at one clock of its period, after byte was written to the channel.
+ * ---- The eight small pulse outputs ----
  *
- * The period is 128 clocks for channels 0 to 3, which keep the byte's low 7 bits, and 64 clocks for channels 4 to 7,
- * which keep its low 6. The output is high for as many clocks from the period's start as the number kept says.
+ * The level of a channel at clock t of its period, after byte was written to the channel.
+ *
+ * Channels 0 to 3 keep the byte's low 7 bits and have a period of 128 clocks; channels 4 to 7 keep its low 6 bits and have 64. The
+ * output is high for as many clocks from the period's start as the number kept says, and low for the rest.
  *
  * value   1 for high, 0 for low.
- * Refuses 15: a channel over 7, or a t that is not below the channel's period.
+ * Refuses 15: a channel above 7, or a t that is not below the channel's period.
+ *
+ * On a set the output may be inverted, and where in the period the high clocks lie is not printed (S32, S35).
  */
 dirgeflint_answer dirgeflint_pulse_level(uint32_t channel, uint8_t byte, uint32_t t);
 
 /*
- * The 14-bit DAC: a period is 128 sub-periods of 128 clocks. The host has one running record, and lends it to each call.
- * Any record is taken: its halves count modulo 128, its position counts modulo 16,384. Every call but a refused play and a play of 0 clocks
- * leaves kept values: halves below 128, a position below 16,384.
+ * ---- The 14-bit tuning DAC ----
+ *
+ * A period is 128 sub-periods of 128 clocks. A pair, a coarse and a fine half of 7 bits each, is high for T = 128 coarse + fine of the
+ * period's 16,384 clocks. Each sub-period begins with its high clocks and is low for the rest; there are coarse of them, or coarse + 1 in
+ * the sub-periods that the fine half picks:
+ *
+ *   fine bit    6      5            4             3           2          1        0
+ *   value      64     32           16             8           4          2        1
+ *   adds to    odd    2, 6, 10 ..  4, 12, 20 ..   8, 24 ..    16, 48 ..  32, 96   64       (of sub-periods 0 to 127; 0 never gets one)
+ *
+ * Writing takes two calls, the low (fine) half first: a low write is held, and a high write completes a pair with the fine half then
+ * held. The pair completed last comes into force as the first clock of a period is played, and stays for that whole period: nothing
+ * written meanwhile alters it. So to tune: write_low(fine), write_high(coarse), play.
+ *
+ * The host has one running record and lends it to each call; start with dirgeflint_dac_reset. Any record is taken: its halves count
+ * modulo 128, its position modulo 16,384, and every call but a refused play and a play of 0 clocks leaves such kept values.
+ *
+ * On a set, before you tune: by the PCA84C646's own sheet the low write completes the pair, not the high one (S36 to S38); the same two
+ * halves are high for 16,383 - T clocks, so that a preset loaded unchanged is mirrored (S41 to S43); a new pair takes effect inside the
+ * period (S39); and the pulses lie at the end of a sub-period, not at its start (S44, S45).
  */
 typedef struct dirgeflint_pair {
     uint8_t coarse; /* high half */
@@ -70,64 +166,144 @@ void dirgeflint_dac_reset(dirgeflint_dac *dac);
 /* Writes the low register: its 7 low bits are held as the fine half, until a high write takes them into a pair. */
 void dirgeflint_dac_write_low(dirgeflint_dac *dac, uint8_t byte);
 
-/* Writes the high register: its 7 low bits, with the fine half held now, complete a pair. The pair completed last is put in force as the
- * position-0 clock of each period is played. */
+/* Writes the high register: its 7 low bits, with the fine half held now, complete a pair. */
 void dirgeflint_dac_write_high(dirgeflint_dac *dac, uint8_t byte);
 
 /*
- * Plays so many clocks: the first bytes of levels become their levels, a byte each, 1 if high and 0 if low, and the position moves on. What
- * levels holds past them stays. With 0 clocks nothing changes.
+ * Plays so many clocks: the first bytes of levels become their levels, a byte each, 1 if high and 0 if low, and the position moves on, from
+ * 16,383 to 0. What levels holds past them stays. With 0 clocks nothing changes.
  *
  * Refuses 14: clocks above 16,384, or above levels_length. The record is then left as it was, made up or not.
  */
 dirgeflint_answer dirgeflint_dac_play(dirgeflint_dac *dac, uint32_t clocks, uint8_t *levels, size_t levels_length);
 
 /*
- * The write port of the display: three registers and the 64 words of the display RAM. It goes by value.
- * Every call uses and gives back the kept bits only, also of a port that the host made up: 6 of the address, 4 of the attribute, 6 of the character
- * register, 10 of each word.
+ * ---- The words of a screen ----
+ *
+ * A screen is 64 words of 10 bits. Bits 9 to 4 are the code, bits 3 to 0 depend on the kind:
+ *
+ *   code        kind        bit 3    bit 2    bit 1    bit 0
+ *   0 to 61     character   red      green    blue     blink         shows that cell of the font, in this colour
+ *   62          return      size - 1 (2 bits) spacing / 4 (2 bits)   ends the row; size and spacing are for the next one
+ *   63          space       red      green    blue     0             an empty cell; sets the background from here on
+ *   63          end         -        -        -        1             ends the screen; has no cell
+ *
+ * Words are read from word 0 up to the first end, or through word 63. The first row has size 1. In a row of size s (1 to 4) each cell is
+ * 12s dots wide and 18s lines high. A return has no cell: the next row begins 0, 4, 8 or 12 lines (its spacing) below the row that it
+ * ends, at the same left edge. A row without a cell is as high as any other. A space sets the background for its own cell and all later
+ * ones, in later rows too, until the next space; before the first space the background is the settings' colour.
+ */
+enum {
+    DIRGEFLINT_BLACK = 0,
+    DIRGEFLINT_BLUE = 1,
+    DIRGEFLINT_GREEN = 2,
+    DIRGEFLINT_CYAN = 3,
+    DIRGEFLINT_RED = 4,
+    DIRGEFLINT_MAGENTA = 5,
+    DIRGEFLINT_YELLOW = 6,
+    DIRGEFLINT_WHITE = 7
+};
+
+/*
+ * Words by their parts. Each part is cut to its bits, and nothing is refused: a code counts modulo 64 (62 is then a return, 63 a space), a
+ * colour modulo 8, size - 1 modulo 4, and a spacing is rounded down to a multiple of 4 and counts modulo 16.
+ */
+static inline uint16_t dirgeflint_character(uint32_t cell, uint32_t colour, bool blink)
+{
+    return (uint16_t)((cell & 63u) << 4 | (colour & 7u) << 1 | (blink ? 1u : 0u));
+}
+
+static inline uint16_t dirgeflint_space(uint32_t background)
+{
+    return (uint16_t)(63u << 4 | (background & 7u) << 1);
+}
+
+static inline uint16_t dirgeflint_return(uint32_t size, uint32_t spacing)
+{
+    return (uint16_t)(62u << 4 | ((size - 1u) & 3u) << 2 | (spacing / 4u & 3u));
+}
+
+static inline uint16_t dirgeflint_end(void)
+{
+    return (uint16_t)(63u << 4 | 1u);
+}
+
+/*
+ * The write port of the display: three registers and the 64 words of the display RAM. The host has one port and lends it to each call; start
+ * with dirgeflint_port_reset. Any port is taken: every call uses and leaves the kept bits only, 6 of the address, 4 of the attribute, 6 of
+ * the character register and 10 of each word. A host may also fill 64 words itself and never use the port.
+ *
+ * On a set the attribute after reset may be 15 and not 0 (S60), and what the words hold after reset is not printed (S61): write both.
  */
 typedef struct dirgeflint_port {
     uint8_t address;
     uint8_t attribute;
     uint8_t character;
-    uint16_t words[64];
+    uint16_t words[DIRGEFLINT_WORDS];
 } dirgeflint_port;
 
-/* The port after reset: 0 everywhere. */
-dirgeflint_port dirgeflint_port_fresh(void);
+/* Makes the port what it is after reset: 0 everywhere, which is 64 black characters of cell 0. */
+void dirgeflint_port_reset(dirgeflint_port *port);
 
-/* The port after a write to the register named. */
-dirgeflint_port dirgeflint_port_write_address(dirgeflint_port port, uint8_t byte);
-dirgeflint_port dirgeflint_port_write_attribute(dirgeflint_port port, uint8_t byte);
+/* Writes the address register: where the next word goes. */
+void dirgeflint_port_write_address(dirgeflint_port *port, uint8_t byte);
 
-/* A write to the character register also stores a word, the code written and the attribute, at the address, and moves the address on by one,
- * from 63 to 0. */
-dirgeflint_port dirgeflint_port_write_character(dirgeflint_port port, uint8_t byte);
+/* Writes the attribute register: bits 3 to 0 of the words that are written after it. */
+void dirgeflint_port_write_attribute(dirgeflint_port *port, uint8_t byte);
 
-/* What the painter is told beside words and font. A colour is a sum: red counts 4, green 2, blue 1. */
+/* Writes the character register: stores a word, this code and the attribute, at the address, and moves the address on by one, from 63 to 0. */
+void dirgeflint_port_write_character(dirgeflint_port *port, uint8_t byte);
+
+/*
+ * ---- Painting ----
+ *
+ * The picture is painted line by line. The first cell starts at dot 4h and line 4v. A dot is a byte: 0 for video (the television picture
+ * shows), else 8 plus a colour. What it is depends on the mode:
+ *
+ *   mode    lit dot of a character    unlit dot, or a space's cell    outside every cell
+ *   0, 1    the character's colour    video                           video
+ *   2       the character's colour    the background                  video
+ *   3       the character's colour    the background                  the settings' colour
+ *
+ * Outside is all that no cell covers: left of dot 4h, above line 4v, between and beside rows, below the end.
+ *
+ * Blinking goes in runs of D frames, counted from frame 0, and a character that blinks shows its lit dots in the first part of each run:
+ * three quarters, a half or a quarter of it for ratio 0, 1, 2. In the rest it has no lit dot, and keeps its background. D is 16, 32, 64 or
+ * 128 for frequency 0 to 3.
+ *
+ * On a set: rows start five dots further right (S6); mode 1 has a shadow (S22); in mode 3 unlit dots have the one colour of register 37,
+ * whatever spaces say (S21); boxes before the first space are blue (S20); the PCE84C886 enlarges heights only (S10); frames count twice in an interlaced
+ * picture (S28).
+ */
+enum {
+    DIRGEFLINT_VIDEO = 0,   /* a dot that shows the television picture */
+    DIRGEFLINT_COLOURED = 8 /* plus a colour: any other dot */
+};
+
 typedef struct dirgeflint_settings {
-    bool on;            /* off: every dot is video */
+    bool on;            /* off: every dot is video, in every mode */
     uint32_t mode;      /* 0 to 3 */
-    uint32_t colour;    /* starting background, 0 to 7 */
-    uint32_t h;         /* rows start at dot 4h; 0 to 63 */
-    uint32_t v;         /* the first row starts at line 4v; 0 to 63 */
-    uint32_t ratio;     /* blink: lit for the first 3/4, 1/2 or 1/4 of each D frames, for 0, 1, 2 */
-    uint32_t frequency; /* blink: D frames; 0, 1, 2, 3 for 16, 32, 64, 128 */
+    uint32_t colour;    /* 0 to 7: the background before the first space, and mode 3's outside */
+    uint32_t h;         /* 0 to 63: rows start at dot 4h */
+    uint32_t v;         /* 0 to 63: the first row starts at line 4v */
+    uint32_t ratio;     /* 0 to 2 */
+    uint32_t frequency; /* 0 to 3 */
 } dirgeflint_settings;
 
 /*
- * Paints the first width dots of a scan line to the first bytes of dots: video is 0, a colour is 8 and its number. Later bytes stay.
+ * Paints the first width dots of a scan line to the first bytes of dots. Later bytes stay; cells are cut at the width.
  *
- * words   the 64 words of the display RAM, each at most 1023
- * font    the 62 cells of 18 rows, top row first, each row at most 4095 with the leftmost dot in bit 11: 1,116 rows
- * frame   any number; blinking goes by its remainder
+ * words   the 64 words, each at most 1023
+ * font    the 62 cells of 18 rows: row l of cell c is font[18 * c + l], at most 4095, its leftmost dot in bit 11
+ * frame   any number
+ * line    0 to 1023
+ * width   0 to 1024
  *
  * Refuses 1: a mode, colour, h, v, frequency or ratio out of range (ratio 3 is in range, and reserved)
  *         2: ratio 3
- *         3: words_length not 64, or a word over 1023
- *         4: font_length not 1,116, or a row over 4095
- *         5: line over 1023, or width over 1024
+ *         3: words_length not 64, or a word above 1023
+ *         4: font_length not 1,116, or a row above 4095
+ *         5: line above 1023, or width above 1024
  *         6: dots_length below width
  */
 dirgeflint_answer dirgeflint_paint(const uint16_t *words, size_t words_length, const uint16_t *font, size_t font_length,
@@ -135,16 +311,27 @@ dirgeflint_answer dirgeflint_paint(const uint16_t *words, size_t words_length, c
                                    size_t dots_length);
 
 /*
- * The character image and its text. A font is 1,116 rows as for dirgeflint_paint. An image has 8,192 bytes. Two of them hold row l of cell c:
- * 32c + l is the address of its low 8 bits, 4096 + 32c + l that of its high 4, which stand below four set bits. Bytes that hold no row are FF.
- * The text is Intel's hexadecimal object format, record types 00 and 01 only.
+ * ---- The character image and its text ----
+ *
+ * A font is 1,116 rows as for dirgeflint_paint. Its image has 8,192 bytes, of which two hold row l of cell c: the one at 32c + l has the
+ * row's low 8 bits, the one at 4096 + 32c + l its high 4, below four set bits. Bytes that hold no row are FF.
+ *
+ * The text is Intel's hexadecimal object format, record types 00 (data) and 01 (end) only. objcopy's texts are taken as they are
+ * (-I binary -O ihex). srec_cat writes other record types unless told not to, and those are refused with 9: give it
+ * -o FONT.hex -intel --address-length=2 -disable=exec_start_address.
+ *
+ * On a set, before you burn: the chip stores 19 rows a cell, the first of them hidden (S51), a P87C766 has a stride of 19 bytes and not
+ * 32 (S52), and the mask files of a PCA84C646 are packed otherwise (S53): this image has to be packed anew for them.
  */
 
 /*
- * Reads a text: the image that its records spell goes to the first 8,192 bytes of image, FF where no record gives a byte. Later bytes stay.
- * Digits of either case; lines end in LF or CR LF, and the last may lack its end.
+ * Reads a text: the image that its records spell goes to the first 8,192 bytes of image. Later bytes stay. Digits of either case; lines
+ * end in LF or CR LF, and the last may lack its end; records in any order.
  *
- * value   how many bytes the records give.
+ * A byte that no record gives is FF, which is lit dots where it holds a row. So an end record alone is an accepted text, of a font with every
+ * dot lit: look at the value to know whether the text has all of a font.
+ *
+ * value   how many bytes the records give: 8,192 (DIRGEFLINT_IMAGE_BYTES) for a whole image.
  * Refuses 6: image_length below 8,192
  *         7: text_length above 65,535 (place 0); or a line that has not the shape of a record
  *         8: a record whose bytes do not sum to 0
@@ -152,16 +339,16 @@ dirgeflint_answer dirgeflint_paint(const uint16_t *words, size_t words_length, c
  *        10: address plus length above 8,192
  *        11: a byte that an earlier record gives already
  *        12: no end record (place: text_length), or bytes after its line (place: the first of them)
- * 7 to 11 go by the first record with a fault, whatever faults later ones have; place is the start of its line. Lines after the end record's
- * are looked at for 12 only.
+ * 7 to 11 go by the first record with a fault, whatever faults later ones have; place is where its line starts, in bytes from the text's
+ * start. Lines after the end record's are looked at for 12 only.
  */
 dirgeflint_answer dirgeflint_hex_read(const uint8_t *text, size_t text_length, uint8_t *image, size_t image_length);
 
 /*
  * Writes a font: the text of its image goes to the first 22,540 bytes of text, 512 records that hold 16 bytes each, from address 0 up, and the end
- * record, in upper case, each line ended by LF. Later bytes stay.
+ * record, in upper case, each line ended by LF. Later bytes stay. Reading the text and turning its image gives the font again.
  *
- * Refuses 4: font_length not 1,116, or a row over 4095
+ * Refuses 4: font_length not 1,116, or a row above 4095
  *         6: text_length below 22,540
  */
 dirgeflint_answer dirgeflint_hex_write(const uint16_t *font, size_t font_length, uint8_t *text, size_t text_length);
@@ -170,7 +357,7 @@ dirgeflint_answer dirgeflint_hex_write(const uint16_t *font, size_t font_length,
  * Turns an image into the font whose image it is.
  *
  * Refuses 13: image_length not 8,192 or font_length not 1,116 (place 0); or a bit that is not set where an image has FF or set upper bits
- *             (place: the lowest such address)
+ *             (place: the lowest such address, which is never below 18)
  */
 dirgeflint_answer dirgeflint_image_to_font(const uint8_t *image, size_t image_length, uint16_t *font, size_t font_length);
 

@@ -2,15 +2,15 @@
 #include "dirgeflint.h"
 #include <stdio.h>
 
-/* One byte more than a text may have, so that a longer one is refused and not cut. */
-enum { ROWS = 1116, TEXT = 65536, IMAGE = 8192, WIDTH = 84 };
+enum { WIDTH = 84 };
 
-static uint8_t text[TEXT], image[IMAGE], dots[WIDTH];
-static uint16_t font[ROWS];
+/* One byte more than a text may have, so that a longer one is refused and not cut. */
+static uint8_t text[DIRGEFLINT_MOST_TEXT + 1], image[DIRGEFLINT_IMAGE_BYTES], dots[WIDTH];
+static uint16_t font[DIRGEFLINT_FONT_ROWS];
 
 static int refused(const char *what, dirgeflint_answer a)
 {
-    fprintf(stderr, "screen: %s refused with %u at %u\n", what, (unsigned)a.number, (unsigned)a.place);
+    fprintf(stderr, "screen: %s: %s (refused %u at %u)\n", what, dirgeflint_reason(a.number), (unsigned)a.number, (unsigned)a.place);
     return 1;
 }
 
@@ -24,26 +24,29 @@ int main(int count, char **names)
     size_t length = fread(text, 1, sizeof text, file);
     fclose(file);
     dirgeflint_answer a = dirgeflint_hex_read(text, length, image, sizeof image);
-    if (a.number != 0)
-        return refused("the text is", a);
-    a = dirgeflint_image_to_font(image, sizeof image, font, ROWS);
-    if (a.number != 0)
-        return refused("the image is", a);
+    if (a.number != DIRGEFLINT_ACCEPTED)
+        return refused("the text", a);
+    a = dirgeflint_image_to_font(image, sizeof image, font, DIRGEFLINT_FONT_ROWS);
+    if (a.number != DIRGEFLINT_ACCEPTED)
+        return refused("the image", a);
 
     /* "CH 12" in white through the write port, then an end. Cells 0 to 9 are the digits, 11 to 36 the letters. */
     static const uint8_t codes[] = { 13, 18, 61, 1, 2 };
-    dirgeflint_port port = dirgeflint_port_write_attribute(dirgeflint_port_fresh(), 14);
+    dirgeflint_port port;
+    dirgeflint_port_reset(&port);
+    dirgeflint_port_write_attribute(&port, DIRGEFLINT_WHITE << 1);
     for (size_t i = 0; i < sizeof codes; i++)
-        port = dirgeflint_port_write_character(port, codes[i]);
-    port = dirgeflint_port_write_character(dirgeflint_port_write_attribute(port, 1), 63);
+        dirgeflint_port_write_character(&port, codes[i]);
+    dirgeflint_port_write_attribute(&port, 1);
+    dirgeflint_port_write_character(&port, 63);
 
-    dirgeflint_settings settings = { .on = true, .mode = 2, .colour = 1, .h = 3, .v = 0, .ratio = 0, .frequency = 0 };
-    for (uint32_t line = 0; line < 18; line++) {
-        a = dirgeflint_paint(port.words, 64, font, ROWS, settings, 0, line, WIDTH, dots, sizeof dots);
-        if (a.number != 0)
-            return refused("a line is", a);
+    dirgeflint_settings settings = { .on = true, .mode = 2, .colour = DIRGEFLINT_BLUE, .h = 3, .v = 0, .ratio = 0, .frequency = 0 };
+    for (uint32_t line = 0; line < DIRGEFLINT_CELL_ROWS; line++) {
+        a = dirgeflint_paint(port.words, DIRGEFLINT_WORDS, font, DIRGEFLINT_FONT_ROWS, settings, 0, line, WIDTH, dots, sizeof dots);
+        if (a.number != DIRGEFLINT_ACCEPTED)
+            return refused("a line", a);
         for (size_t k = 0; k < WIDTH; k++)
-            putchar(dots[k] == 0 ? ' ' : dots[k] == 15 ? '#' : '.');
+            putchar(dots[k] == DIRGEFLINT_VIDEO ? ' ' : dots[k] == DIRGEFLINT_COLOURED + DIRGEFLINT_WHITE ? '#' : '.');
         putchar('\n');
     }
     return 0;
