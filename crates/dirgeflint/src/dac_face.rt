@@ -3,11 +3,10 @@
 ghost use mathlib.Core.Path.{_≡_};
 ghost use lib.ListN.{length};
 ghost use Rattle.dac.specs.Running.{afterReset, lowWritten, highWritten};
-ghost use Rattle.dac.specs.Play.{answerOf, afterPlay, lentAfter, said};
+ghost use Rattle.dac.specs.Play.{answerOf, afterPlay, lentAfter};
 ghost use Rattle.answer.specs.Told.{told};
 use answer::Answer;
 use dac::Dac;
-use dac::Played;
 
 #[no_mangle]
 pub extern "C" fn dirgeflint_dac_reset(running: &mut Dac)
@@ -41,14 +40,5 @@ pub extern "C" fn dirgeflint_dac_play(running: &mut Dac, clocks: u32, levels: &m
     let played = dac::play(before, clocks, levels);
     *running = played.after;
     let case = played.answer;
-    played_answer(case)
-}
-
-fn played_answer(played: Played) -> Answer
-    ensures { λ r. ⌜ told r ≡ said played ⌝ }
-{
-    match played {
-        Played::All => answer::accepted(0),
-        Played::TooMany => answer::refused(14, 0),
-    }
+    telling::played_answer(case)
 }

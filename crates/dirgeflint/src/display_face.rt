@@ -1,11 +1,10 @@
 // The painter.
 ghost use mathlib.Core.Path.{_≡_};
 ghost use lib.ListN.{length};
-ghost use Rattle.judging.specs.Judging.{answerOf, said};
+ghost use Rattle.judging.specs.Judging.{answerOf};
 ghost use Rattle.display.specs.Painting.{leftBy};
 ghost use Rattle.answer.specs.Told.{told};
 use answer::Answer;
-use judging::Painted;
 use judging::Settings;
 use units::Dots;
 use units::Lines;
@@ -32,19 +31,5 @@ pub extern "C" fn dirgeflint_paint(
         Dots(width as usize),
         dots,
     );
-    painted_answer(painted)
-}
-
-fn painted_answer(painted: Painted) -> Answer
-    ensures { λ r. ⌜ told r ≡ said painted ⌝ }
-{
-    match painted {
-        Painted::Done => answer::accepted(0),
-        Painted::BadSetting => answer::refused(1, 0),
-        Painted::ReservedRatio => answer::refused(2, 0),
-        Painted::BadWords => answer::refused(3, 0),
-        Painted::BadFont => answer::refused(4, 0),
-        Painted::OffScreen => answer::refused(5, 0),
-        Painted::NoRoom => answer::refused(6, 0),
-    }
+    telling::painted_answer(painted)
 }

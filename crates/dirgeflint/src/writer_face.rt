@@ -2,9 +2,8 @@
 ghost use mathlib.Core.Path.{_≡_};
 ghost use lib.ListN.{length};
 ghost use Rattle.answer.specs.Told.{told};
-ghost use Rattle.writer.specs.Writing.{answerOf, leftOf, said};
+ghost use Rattle.writer.specs.Writing.{answerOf, leftOf};
 use answer::Answer;
-use writer::Written;
 
 // Writes the text of a font's image into the first 22,540 bytes lent: value 0, or number 4 or 6.
 #[no_mangle]
@@ -12,15 +11,5 @@ pub extern "C" fn dirgeflint_hex_write(font: &[u16], text: &mut [u8]) -> Answer
     ensures { λ r. ⌜ (told r ≡ answerOf (now (font .entry)) (length (now (text .entry)))) × (now (text .exit) ≡ leftOf (now (font .entry)) (now (text .entry))) ⌝ }
 {
     let written = writer::write(font, text);
-    written_answer(written)
-}
-
-fn written_answer(written: Written) -> Answer
-    ensures { λ r. ⌜ told r ≡ said written ⌝ }
-{
-    match written {
-        Written::Done => answer::accepted(0),
-        Written::NotAFont => answer::refused(4, 0),
-        Written::NoRoom => answer::refused(6, 0),
-    }
+    telling::written_answer(written)
 }

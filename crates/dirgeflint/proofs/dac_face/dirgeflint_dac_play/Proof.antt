@@ -16,8 +16,8 @@ use Rattle.dac.proofs.play.Met as step-met
 use Rattle.answer.specs.Told.{told}
 use Rattle.answer.specs.declared.Answer.{Answer}
 use Rattle.lent.proofs.Play.{PlayStep, TellStep, play-meets}
-use Rattle.dirgeflint.proofs.dac_face.played_answer.Symbol as telling
-use Rattle.dirgeflint.proofs.dac_face.played_answer.Met as telling-met
+use Rattle.telling.proofs.played_answer.Symbol as telling
+use Rattle.telling.proofs.played_answer.Met as telling-met
 use Rattle.dirgeflint.proofs.dac_face.dirgeflint_dac_play as f
 use Rattle.dirgeflint.proofs.dac_face.dirgeflint_dac_play.Code as code
 use Rattle.dirgeflint.proofs.dac_face.dirgeflint_dac_play.Key as key
@@ -46,4 +46,4 @@ dirgeflint-dac-play-spec 𝓤 H 𝓜 𝓖 𝓡 =
     (tables 𝓤 H 𝓜 𝓡 code.env .C) (tables 𝓤 H 𝓜 𝓡 code.env .Λ) key.name code.function (code.unfolded 𝓤 H 𝓜 𝓡)
     (play-meets Says Tells Claims so step.name telling.name 𝓤 H (𝓖 .A) (givenOf 𝓤 H 𝓜 𝓖) (tablesOf 𝓤 H 𝓜 (tables 𝓤 H 𝓜 𝓡 code.env))
     (cited 𝓤 H (PlayStep Says 𝓤 H (𝓖 .A)) 𝓜 𝓡 code.env step.name step.routine code.calls-dac·play (step-met.met 𝓤 H 𝓜 𝓖 𝓡))
-    (cited 𝓤 H (TellStep Tells 𝓤 H (𝓖 .A)) 𝓜 𝓡 code.env telling.name telling.routine code.calls-dirgeflint·dac-face·played-answer (telling-met.met 𝓤 H 𝓜 𝓖 𝓡)))
+    (cited 𝓤 H (TellStep Tells 𝓤 H (𝓖 .A)) 𝓜 𝓡 code.env telling.name telling.routine code.calls-telling·played-answer (telling-met.met 𝓤 H 𝓜 𝓖 𝓡)))

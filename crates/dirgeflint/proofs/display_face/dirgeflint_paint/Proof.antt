@@ -1,7 +1,7 @@
 -- What the struct tells is what is said of the painter's case; the dots are as the painter leaves them.
 -- Assumes nothing.
-use mathlib.Core.Path.{_∙_}
 use borrow.Author.Needs.{needs}
+use Rattle.dirgeflint.proofs.Through.{told-through}
 use Rattle.dirgeflint.proofs.display_face.dirgeflint_paint.Statement.{statement}
 use Rattle.dirgeflint.proofs.display_face.dirgeflint_paint.Tie as tie
 
@@ -15,7 +15,7 @@ same-length : tie.Need-same-length
 same-length c = search needs
 
 returns : tie.Need-returns
-returns c = (c .painted-answer .ensures ∙ c .before .before .before .paint .ensures .0, c .before .before .before .paint .ensures .1)
+returns c = told-through (c .painted-answer .ensures) (let p : tie.After-paint = search in p .paint .ensures)
 
 pub dirgeflint-paint-spec : {M : Type 1} → statement M
 dirgeflint-paint-spec = tie.close (tie.spec paint-requires painted-answer-requires same-length returns)

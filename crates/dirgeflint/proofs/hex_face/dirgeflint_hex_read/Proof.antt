@@ -1,7 +1,7 @@
 -- What the struct tells is what is said of the reader's case; the image is as the reader leaves it.
 -- Assumes nothing.
-use mathlib.Core.Path.{_∙_}
 use borrow.Author.Needs.{needs}
+use Rattle.dirgeflint.proofs.Through.{told-through}
 use Rattle.dirgeflint.proofs.hex_face.dirgeflint_hex_read.Statement.{statement}
 use Rattle.dirgeflint.proofs.hex_face.dirgeflint_hex_read.Tie as tie
 
@@ -15,7 +15,7 @@ same-length : tie.Need-same-length
 same-length c = search needs
 
 returns : tie.Need-returns
-returns c = (c .read-answer .ensures ∙ c .before .before .before .read .ensures .0, c .before .before .before .read .ensures .1)
+returns c = told-through (c .read-answer .ensures) (let p : tie.After-read = search in p .read .ensures)
 
 pub dirgeflint-hex-read-spec : {M : Type 1} → statement M
 dirgeflint-hex-read-spec =

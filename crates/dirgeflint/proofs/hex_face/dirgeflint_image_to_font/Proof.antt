@@ -1,7 +1,7 @@
 -- What the struct tells is what is said of the case; the font is as the turning leaves it.
 -- Assumes nothing.
-use mathlib.Core.Path.{_∙_}
 use borrow.Author.Needs.{needs}
+use Rattle.dirgeflint.proofs.Through.{told-through}
 use Rattle.dirgeflint.proofs.hex_face.dirgeflint_image_to_font.Statement.{statement}
 use Rattle.dirgeflint.proofs.hex_face.dirgeflint_image_to_font.Tie as tie
 
@@ -15,7 +15,7 @@ same-length : tie.Need-same-length
 same-length c = search needs
 
 returns : tie.Need-returns
-returns c = (c .turned-answer .ensures ∙ c .before .before .before .image-to-font .ensures .0, c .before .before .before .image-to-font .ensures .1)
+returns c = told-through (c .turned-answer .ensures) (let p : tie.After-image-to-font = search in p .image-to-font .ensures)
 
 pub dirgeflint-image-to-font-spec : {M : Type 1} → statement M
 dirgeflint-image-to-font-spec =

@@ -12,7 +12,7 @@ level-answer-requires : tie.Need-level-answer-requires
 level-answer-requires c κs = search needs
 
 returns : tie.Need-returns
-returns c = c .level-answer .ensures ∙ c .before .level-at .ensures
+returns c = c .level-answer .ensures ∙ (let p : tie.After-level-at = search in p .level-at .ensures)
 
 pub dirgeflint-pulse-level-spec : {M : Type 1} → statement M
 dirgeflint-pulse-level-spec = tie.close (tie.spec level-at-requires level-answer-requires returns)

@@ -1,7 +1,7 @@
 -- What the struct tells is what is said of the writer's case; the text is as the writer leaves it.
 -- Assumes nothing.
-use mathlib.Core.Path.{_∙_}
 use borrow.Author.Needs.{needs}
+use Rattle.dirgeflint.proofs.Through.{told-through}
 use Rattle.dirgeflint.proofs.writer_face.dirgeflint_hex_write.Statement.{statement}
 use Rattle.dirgeflint.proofs.writer_face.dirgeflint_hex_write.Tie as tie
 
@@ -15,7 +15,7 @@ same-length : tie.Need-same-length
 same-length c = search needs
 
 returns : tie.Need-returns
-returns c = (c .written-answer .ensures ∙ c .before .before .before .write .ensures .0, c .before .before .before .write .ensures .1)
+returns c = told-through (c .written-answer .ensures) (let p : tie.After-write = search in p .write .ensures)
 
 pub dirgeflint-hex-write-spec : {M : Type 1} → statement M
 dirgeflint-hex-write-spec = tie.close (tie.spec write-requires written-answer-requires same-length returns)

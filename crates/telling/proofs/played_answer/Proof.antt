@@ -1,10 +1,11 @@
 -- In each arm the struct tells what is said of the case that was met.
 -- Assumes nothing.
-use mathlib.Core.Path.{sym, _∙_, ap}
 use Rattle.dac.specs.Play.{said}
+use Rattle.dac.specs.declared.Played.the-variants.{All, TooMany}
 use borrow.Author.Needs.{needs}
-use Rattle.dirgeflint.proofs.dac_face.played_answer.Statement.{statement}
-use Rattle.dirgeflint.proofs.dac_face.played_answer.Tie as tie
+use Rattle.telling.proofs.Tells.{tells}
+use Rattle.telling.proofs.played_answer.Statement.{statement}
+use Rattle.telling.proofs.played_answer.Tie as tie
 
 enum-told : tie.Need-enum-told
 enum-told c = search needs
@@ -19,10 +20,10 @@ refused-requires : tie.Need-refused-requires
 refused-requires c κs = search needs
 
 returns : tie.Need-returns
-returns c = c .accepted .ensures ∙ sym (ap said (c .before .enum-told .given .1))
+returns c = tells said All (c .before .enum-told .given .1) (c .accepted .ensures)
 
 returns-2 : tie.Need-returns-2
-returns-2 c = c .refused .ensures ∙ sym (ap said (c .before .enum-told2 .given .1))
+returns-2 c = tells said TooMany (c .before .enum-told2 .given .1) (c .refused .ensures)
 
 pub played-answer-spec : {M : Type 1} → statement M
 played-answer-spec =

@@ -1,10 +1,11 @@
 -- In each arm the struct tells what is said of the case that was met.
 -- Assumes nothing.
-use mathlib.Core.Path.{sym, _∙_, ap}
 use Rattle.writer.specs.Writing.{said}
+use Rattle.writer.specs.declared.Written.the-variants.{Done, NotAFont, NoRoom}
 use borrow.Author.Needs.{needs}
-use Rattle.dirgeflint.proofs.writer_face.written_answer.Statement.{statement}
-use Rattle.dirgeflint.proofs.writer_face.written_answer.Tie as tie
+use Rattle.telling.proofs.Tells.{tells}
+use Rattle.telling.proofs.written_answer.Statement.{statement}
+use Rattle.telling.proofs.written_answer.Tie as tie
 
 enum-told : tie.Need-enum-told
 enum-told c = search needs
@@ -25,13 +26,13 @@ refused-requires-2 : tie.Need-refused-requires-2
 refused-requires-2 c κs = search needs
 
 returns : tie.Need-returns
-returns c = c .accepted .ensures ∙ sym (ap said (c .before .enum-told .given .1))
+returns c = tells said Done (c .before .enum-told .given .1) (c .accepted .ensures)
 
 returns-2 : tie.Need-returns-2
-returns-2 c = c .refused .ensures ∙ sym (ap said (c .before .enum-told2 .given .1))
+returns-2 c = tells said NotAFont (c .before .enum-told2 .given .1) (c .refused .ensures)
 
 returns-3 : tie.Need-returns-3
-returns-3 c = c .refused2 .ensures ∙ sym (ap said (c .before .enum-told3 .given .1))
+returns-3 c = tells said NoRoom (c .before .enum-told3 .given .1) (c .refused2 .ensures)
 
 pub written-answer-spec : {M : Type 1} → statement M
 written-answer-spec =

@@ -1,10 +1,11 @@
 -- In each arm the struct tells what is said of the case that was met.
 -- Assumes nothing.
-use mathlib.Core.Path.{sym, _∙_, ap}
 use Rattle.judging.specs.Judging.{said}
+use Rattle.judging.specs.declared.Painted.the-variants.{Done, BadSetting, ReservedRatio, BadWords, BadFont, OffScreen, NoRoom}
 use borrow.Author.Needs.{needs}
-use Rattle.dirgeflint.proofs.display_face.painted_answer.Statement.{statement}
-use Rattle.dirgeflint.proofs.display_face.painted_answer.Tie as tie
+use Rattle.telling.proofs.Tells.{tells}
+use Rattle.telling.proofs.painted_answer.Statement.{statement}
+use Rattle.telling.proofs.painted_answer.Tie as tie
 
 enum-told : tie.Need-enum-told
 enum-told c = search needs
@@ -49,25 +50,25 @@ refused-requires-6 : tie.Need-refused-requires-6
 refused-requires-6 c κs = search needs
 
 returns : tie.Need-returns
-returns c = c .accepted .ensures ∙ sym (ap said (c .before .enum-told .given .1))
+returns c = tells said Done (c .before .enum-told .given .1) (c .accepted .ensures)
 
 returns-2 : tie.Need-returns-2
-returns-2 c = c .refused .ensures ∙ sym (ap said (c .before .enum-told2 .given .1))
+returns-2 c = tells said BadSetting (c .before .enum-told2 .given .1) (c .refused .ensures)
 
 returns-3 : tie.Need-returns-3
-returns-3 c = c .refused2 .ensures ∙ sym (ap said (c .before .enum-told3 .given .1))
+returns-3 c = tells said ReservedRatio (c .before .enum-told3 .given .1) (c .refused2 .ensures)
 
 returns-4 : tie.Need-returns-4
-returns-4 c = c .refused3 .ensures ∙ sym (ap said (c .before .enum-told4 .given .1))
+returns-4 c = tells said BadWords (c .before .enum-told4 .given .1) (c .refused3 .ensures)
 
 returns-5 : tie.Need-returns-5
-returns-5 c = c .refused4 .ensures ∙ sym (ap said (c .before .enum-told5 .given .1))
+returns-5 c = tells said BadFont (c .before .enum-told5 .given .1) (c .refused4 .ensures)
 
 returns-6 : tie.Need-returns-6
-returns-6 c = c .refused5 .ensures ∙ sym (ap said (c .before .enum-told6 .given .1))
+returns-6 c = tells said OffScreen (c .before .enum-told6 .given .1) (c .refused5 .ensures)
 
 returns-7 : tie.Need-returns-7
-returns-7 c = c .refused6 .ensures ∙ sym (ap said (c .before .enum-told7 .given .1))
+returns-7 c = tells said NoRoom (c .before .enum-told7 .given .1) (c .refused6 .ensures)
 
 pub painted-answer-spec : {M : Type 1} → statement M
 painted-answer-spec =

@@ -1,10 +1,11 @@
 -- In each arm the struct tells what is said of the case that was met.
 -- Assumes nothing.
-use mathlib.Core.Path.{sym, _∙_, ap}
 use Rattle.pulse.specs.Pulse.{said}
+use Rattle.pulse.specs.declared.Level.the-variants.{Low, High, NoSuchClock}
 use borrow.Author.Needs.{needs}
-use Rattle.dirgeflint.proofs.pulse_face.level_answer.Statement.{statement}
-use Rattle.dirgeflint.proofs.pulse_face.level_answer.Tie as tie
+use Rattle.telling.proofs.Tells.{tells}
+use Rattle.telling.proofs.level_answer.Statement.{statement}
+use Rattle.telling.proofs.level_answer.Tie as tie
 
 enum-told : tie.Need-enum-told
 enum-told c = search needs
@@ -25,13 +26,13 @@ refused-requires : tie.Need-refused-requires
 refused-requires c κs = search needs
 
 returns : tie.Need-returns
-returns c = c .accepted .ensures ∙ sym (ap said (c .before .enum-told .given .1))
+returns c = tells said Low (c .before .enum-told .given .1) (c .accepted .ensures)
 
 returns-2 : tie.Need-returns-2
-returns-2 c = c .accepted2 .ensures ∙ sym (ap said (c .before .enum-told2 .given .1))
+returns-2 c = tells said High (c .before .enum-told2 .given .1) (c .accepted2 .ensures)
 
 returns-3 : tie.Need-returns-3
-returns-3 c = c .refused .ensures ∙ sym (ap said (c .before .enum-told3 .given .1))
+returns-3 c = tells said NoSuchClock (c .before .enum-told3 .given .1) (c .refused .ensures)
 
 pub level-answer-spec : {M : Type 1} → statement M
 level-answer-spec =

@@ -1,0 +1,3 @@
+-- The proofs of this crate that are not of one function.
+pub mod Tells
+pub mod Unique

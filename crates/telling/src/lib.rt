@@ -1,0 +1,60 @@
+// How the cases that only the C face tells become the struct that crosses to C: of a level, a play, a painting and a writing. Those of a reading and
+// of an image turned into a font, which the program tells too, stand in `answer`.
+ghost use mathlib.Core.Path.{_≡_};
+ghost use Rattle.pulse.specs.Pulse.{said as Pulse·said};
+ghost use Rattle.dac.specs.Play.{said as Dac·said};
+ghost use Rattle.judging.specs.Judging.{said as Judging·said};
+ghost use Rattle.writer.specs.Writing.{said as Writer·said};
+ghost use Rattle.answer.specs.Told.{told};
+use answer::Answer;
+use dac::Played;
+use judging::Painted;
+use pulse::Level;
+use writer::Written;
+
+// The answer of asking for a level.
+pub fn level_answer(level: Level) -> Answer
+    ensures { λ r. ⌜ told r ≡ Pulse·said level ⌝ }
+{
+    match level {
+        Level::Low => answer::accepted(0),
+        Level::High => answer::accepted(1),
+        Level::NoSuchClock => answer::refused(15, 0),
+    }
+}
+
+// The answer of a play.
+pub fn played_answer(played: Played) -> Answer
+    ensures { λ r. ⌜ told r ≡ Dac·said played ⌝ }
+{
+    match played {
+        Played::All => answer::accepted(0),
+        Played::TooMany => answer::refused(14, 0),
+    }
+}
+
+// The answer of painting a line.
+pub fn painted_answer(painted: Painted) -> Answer
+    ensures { λ r. ⌜ told r ≡ Judging·said painted ⌝ }
+{
+    match painted {
+        Painted::Done => answer::accepted(0),
+        Painted::BadSetting => answer::refused(1, 0),
+        Painted::ReservedRatio => answer::refused(2, 0),
+        Painted::BadWords => answer::refused(3, 0),
+        Painted::BadFont => answer::refused(4, 0),
+        Painted::OffScreen => answer::refused(5, 0),
+        Painted::NoRoom => answer::refused(6, 0),
+    }
+}
+
+// The answer of writing a font's text.
+pub fn written_answer(written: Written) -> Answer
+    ensures { λ r. ⌜ told r ≡ Writer·said written ⌝ }
+{
+    match written {
+        Written::Done => answer::accepted(0),
+        Written::NotAFont => answer::refused(4, 0),
+        Written::NoRoom => answer::refused(6, 0),
+    }
+}
