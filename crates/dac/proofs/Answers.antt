@@ -9,9 +9,9 @@ use lib.ListN.{length}
 use borrow.Author.Tests.{lt-ltb, le-ltb}
 use Rattle.laws.specs.Said.{Said, accepted, refused}
 use Rattle.dac.specs.declared.Dac.{Dac}
-use Rattle.dac.specs.Wave.{period}
+use Rattle.wave.specs.Wave.{period, over}
 use Rattle.dac.specs.Running.{afterClocks, levelsOf}
-use Rattle.dac.specs.Play.{tooMany, answerOf, afterPlay, levelsPlayed, over, lentAfter}
+use Rattle.dac.specs.Play.{tooMany, answerOf, afterPlay, levelsPlayed, lentAfter}
 
 module _ (c room : ℕ) where
   pub past-period : period < c → tooMany c room ≡ true

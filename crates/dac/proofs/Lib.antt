@@ -1,4 +1,3 @@
 pub mod Answers
-pub mod Fine
+pub mod Clocks
 pub mod Unique
-pub mod Within

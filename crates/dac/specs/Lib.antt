@@ -1,4 +1,3 @@
 pub mod Play
 pub mod Running
 pub mod Steps
-pub mod Wave

@@ -2,15 +2,15 @@
 -- Assumes nothing.
 use Prim.Native.Nat.{ℕ}
 use mathlib.Core.Bool.{Bool, _||_}
-use mathlib.Core.List.{List, [], _++_}
+use mathlib.Core.List.{List, []}
 use lib.Dec.{ltb}
-use lib.ListN.{length, drop}
+use lib.ListN.{length}
 use Rattle.laws.specs.Pick.{pick}
 use Rattle.laws.specs.Said.{Said, accepted, refused}
 use Rattle.dac.specs.declared.Dac.{Dac}
 use Rattle.dac.specs.declared.Played.{Played}
 use Rattle.dac.specs.declared.Played.the-variants.{All, TooMany}
-use Rattle.dac.specs.Wave.{period}
+use Rattle.wave.specs.Wave.{period, over}
 use Rattle.dac.specs.Running.{afterClocks, levelsOf}
 
 -- more clocks than a period has, or than bytes are lent
@@ -28,10 +28,7 @@ afterPlay d clocks room = pick (tooMany clocks room) d (afterClocks clocks d)
 unfoldable pub levelsPlayed : Dac → ℕ → ℕ → List ℕ
 levelsPlayed d clocks room = pick (tooMany clocks room) [] (levelsOf clocks d)
 
--- The levels stand in the first bytes lent; later bytes stay.
-abbrev pub over : List ℕ → List ℕ → List ℕ
-over levels lent = levels ++ drop (length levels) lent
-
+-- what then stands in the bytes lent
 unfoldable pub lentAfter : Dac → ℕ → List ℕ → List ℕ
 lentAfter d clocks lent = over (levelsPlayed d clocks (length lent)) lent
 

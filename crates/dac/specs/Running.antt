@@ -5,9 +5,9 @@ use Prim.Native.Nat.{ℕ, zero, suc, _+_, _%_}
 use mathlib.Core.List.{List, [], _∷_}
 use lib.Dec.{eqb}
 use Rattle.laws.specs.Pick.{pick}
-use Rattle.dac.specs.declared.Pair.{Pair}
+use Rattle.wave.specs.declared.Pair.{Pair}
 use Rattle.dac.specs.declared.Dac.{Dac}
-use Rattle.dac.specs.Wave.{period, pair, level}
+use Rattle.wave.specs.Wave.{period, pair, level}
 
 -- how many halves there are: a register keeps 7 bits
 abbrev pub halves : ℕ

@@ -1,10 +1,8 @@
--- Not part of the account: what the private function that writes the bytes of one sub-period is told to write. proofs/Within.antt joins it to
--- the levels of specs/Wave.antt.
+-- Not part of the account: what `play` has made sure of before it plays so many clocks into so many bytes.
 -- Assumes nothing.
-use Prim.Native.Nat.{ℕ, _-_, min}
-use mathlib.Core.List.{List, _++_}
-use lib.ListN.{replicate}
+use Prim.Native.Nat.{ℕ, _≤_}
+use Rattle.wave.specs.Wave.{period}
 
--- the n levels from clock i on of a sub-period that is high for its first x clocks
-unfoldable pub pulse : ℕ → ℕ → ℕ → List ℕ
-pulse i x n = replicate (min (x - i) n) 1 ++ replicate (n - (x - i)) 0
+pub record Fits (count room : ℕ) : Type 0 where
+  pub inPeriod : count ≤ period
+  pub inRoom : count ≤ room

@@ -1,26 +1,16 @@
 // The 14-bit DAC: its running record, the writes to its two registers, and plays, all by value. Every record is taken, also one that no call
 // made; a play of no clocks and a refused play give it back as it came, every other call gives back kept values only.
 ghost use mathlib.Core.Path.{_≡_};
-ghost use Prim.Native.Nat.{_+_, _-_, _<_, _≤_, min};
 ghost use lib.ListN.{length};
-ghost use Rattle.dac.specs.Wave.{period, subPeriods, added as addedOf, wave};
+ghost use Rattle.wave.specs.Wave.{over};
 ghost use Rattle.dac.specs.Running.{keptPair, kept as keptOf, afterReset, lowWritten, highWritten, playing as playingOf, afterClocks, levelsOf};
-ghost use Rattle.dac.specs.Play.{answerOf, afterPlay, lentAfter, over, said};
-ghost use Rattle.dac.specs.Steps.{pulse};
-
-// In clocks.
-const PERIOD: usize = 16384;
-
-const SUB_PERIOD: usize = 128;
+ghost use Rattle.dac.specs.Play.{answerOf, afterPlay, lentAfter, said};
+ghost use Rattle.dac.specs.Steps.{Fits};
+use wave::PERIOD;
+use wave::Pair;
 
 // A register keeps 7 bits, so a half is below this.
 const HALF: u8 = 128;
-
-#[repr(C)]
-pub struct Pair {
-    pub coarse: u8,
-    pub fine: u8,
-}
 
 #[repr(C)]
 pub struct Dac {
@@ -108,9 +98,9 @@ pub fn play(dac: Dac, clocks: u32, levels: &mut [u8]) -> Outcome
     }
 }
 
-// A play that is not refused: what is left of the period under way, and the first clocks of the next.
+// A play that is not refused: the clocks of the period under way, no further than it goes, and the first ones of the next.
 fn run(dac: Dac, count: usize, levels: &mut [u8]) -> Dac
-    requires { ⌜ (count ≤ period) × (count ≤ length (now levels)) ⌝ }
+    requires { ⌜ Fits count (length (now levels)) ⌝ }
     ensures { λ r. ⌜ (r ≡ afterClocks count dac) × (now (levels .exit) ≡ over (levelsOf count dac) (now (levels .entry))) ⌝ }
 {
     if count == 0 {
@@ -120,15 +110,14 @@ fn run(dac: Dac, count: usize, levels: &mut [u8]) -> Dac
     let position = after.position as usize;
     let left = PERIOD - position;
     let pair = playing(after);
-    let first = least(count, left);
-    lay(&mut levels[..first], pair, position);
+    wave::lay(&mut levels[..count], pair, position);
     after.position = ((position + count) % PERIOD) as u16;
     if count <= left {
         after.in_force = pair;
         return after;
     }
     let next = after.completed;
-    lay(&mut levels[first..count], next, 0);
+    wave::lay(&mut levels[left..count], next, 0);
     after.in_force = next;
     after
 }
@@ -166,72 +155,4 @@ fn playing(dac: Dac) -> Pair
     }
     let in_force = dac.in_force;
     in_force
-}
-
-// Fills the bytes with the levels from position `from` on that `pair` gives, a sub-period at a time.
-fn lay(levels: &mut [u8], pair: Pair, from: usize)
-    requires { ⌜ from + length (now levels) ≤ period ⌝ }
-    ensures { λ _. ⌜ now (levels .exit) ≡ wave pair from (length (now (levels .entry))) ⌝ }
-{
-    let coarse = pair.coarse as usize;
-    let fine = pair.fine;
-    let mut i = 0;
-    while i < levels.len() {
-        let clock = (from + i) % SUB_PERIOD;
-        let more = added(fine, (from + i) / SUB_PERIOD);
-        let end = least(i + (SUB_PERIOD - clock), levels.len());
-        stretch(&mut levels[i..end], clock, coarse + more as usize);
-        i = end;
-    }
-}
-
-// Fills the bytes with the levels from a clock of a sub-period on: its high clocks, then its low ones.
-fn stretch(levels: &mut [u8], clock: usize, high: usize)
-    ensures { λ _. ⌜ now (levels .exit) ≡ pulse clock high (length (now (levels .entry))) ⌝ }
-{
-    let turn = least(beyond(high, clock), levels.len());
-    fill::fill(&mut levels[..turn], 1);
-    fill::fill(&mut levels[turn..], 0);
-}
-
-// The clock that a fine half adds to sub-period n.
-fn added(fine: u8, n: usize) -> u8
-    requires { ⌜ n < subPeriods ⌝ }
-    ensures { λ r. ⌜ r ≡ addedOf fine n ⌝ }
-{
-    if n % 2 != 0 {
-        return fine / 64 % 2;
-    }
-    if n % 4 != 0 {
-        return fine / 32 % 2;
-    }
-    if n % 8 != 0 {
-        return fine / 16 % 2;
-    }
-    if n % 16 != 0 {
-        return fine / 8 % 2;
-    }
-    if n % 32 != 0 {
-        return fine / 4 % 2;
-    }
-    if n % 64 != 0 {
-        return fine / 2 % 2;
-    }
-    if n != 0 {
-        return fine % 2;
-    }
-    0
-}
-
-fn least(a: usize, b: usize) -> usize
-    ensures { λ r. ⌜ r ≡ min a b ⌝ }
-{
-    if a < b { a } else { b }
-}
-
-// How far a is beyond b, or 0.
-fn beyond(a: usize, b: usize) -> usize
-    ensures { λ r. ⌜ r ≡ a - b ⌝ }
-{
-    if b < a { a - b } else { 0 }
 }

@@ -1,3 +1,5 @@
+pub mod Rows
+pub mod Spared
 pub mod Strides
 pub mod Turning
 pub mod Unique

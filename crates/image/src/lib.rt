@@ -1,10 +1,12 @@
 // The image of a font, 8,192 bytes, turned back into the font.
 ghost use mathlib.Core.Path.{_≡_};
-ghost use Prim.Native.Nat.{ℕ, _+_, _*_, _<_, _≤_};
-ghost use mathlib.Core.Bool.{false};
+ghost use Prim.Native.Nat.{ℕ, _+_, _*_, _%_, _<_, _≤_};
+ghost use mathlib.Core.Bool.{true, false};
 ghost use lib.ListN.{length, getD};
+ghost use Rattle.laws.specs.Lists.{tabulate};
 ghost use Rattle.font.specs.Font.{fontCells, cellRows, fontRows};
-ghost use Rattle.image.specs.Image.{imageBytes, leastAt, lacksAt, firstLack, fontOf, rowIn, answerOf, leftOf, said};
+ghost use Rattle.image.specs.Image.{imageBytes, stride, unused, leastAt, firstLack, fontOf, rowIn, answerOf, leftOf, said};
+ghost use Rattle.image.specs.Steps.{WholeTo, sparedIn, Held};
 
 pub const IMAGE_BYTES: usize = 8192;
 
@@ -46,6 +48,9 @@ fn first_lack(image: &[u8]) -> usize
     requires { ⌜ length (now image) ≡ imageBytes ⌝ }
     ensures { λ r. ⌜ r ≡ firstLack (now (image .entry)) ⌝ }
 {
+    if lacks_nothing(image) {
+        return IMAGE_BYTES;
+    }
     let mut i = whole_strides(image);
     while i < IMAGE_BYTES {
         if image[i] < least(i) {
@@ -59,7 +64,7 @@ fn first_lack(image: &[u8]) -> usize
 // Where the strides at the image's start that lack nothing end. In a stride the least byte changes once, after a cell's rows.
 fn whole_strides(image: &[u8]) -> usize
     requires { ⌜ length (now image) ≡ imageBytes ⌝ }
-    ensures { λ r. ⌜ (r ≤ imageBytes) × ((k : ℕ) → k < r → lacksAt (now (image .entry)) k ≡ false) ⌝ }
+    ensures { λ r. ⌜ WholeTo (now (image .entry)) r ⌝ }
 {
     let mut at = 0usize;
     while at < IMAGE_BYTES {
@@ -95,6 +100,44 @@ fn falls_below(image: &[u8], from: usize, n: usize, bound: u8) -> bool
     below
 }
 
+// Whether no bit is missing anywhere. Each byte is looked at, and nothing else is asked of it, so that many are looked at at once: an image that is
+// accepted needs no other look.
+fn lacks_nothing(image: &[u8]) -> bool
+    requires { ⌜ length (now image) ≡ imageBytes ⌝ }
+    ensures { λ r. ⌜ (r ≡ true → WholeTo (now (image .entry)) imageBytes) ⌝ }
+{
+    let cells = STRIDE * font::FONT_CELLS;
+    let low = held(image, 0, cells, UNUSED);
+    let low_rest = held(image, cells, HALF_BYTES, 0);
+    let high = held(image, HALF_BYTES, HALF_BYTES + cells, UNUSED - UPPER_BITS);
+    let high_rest = held(image, HALF_BYTES + cells, IMAGE_BYTES, 0);
+    (low & low_rest) & (high & high_rest) == UNUSED
+}
+
+// The bits that all bytes of some strides have; the bits of `free` count as set in a cell's rows.
+fn held(image: &[u8], from: usize, to: usize, free: u8) -> u8
+    requires { ⌜ (from ≤ to) × (to ≤ length (now image)) × (from % stride ≡ 0) × (to % stride ≡ 0) ⌝ }
+    ensures { λ r. ⌜ (unused ≤ r → Held (now (image .entry)) free from to) ⌝ }
+{
+    let mut all: u8 = UNUSED;
+    let mut at = from;
+    while at < to {
+        let mut i = 0usize;
+        while i < STRIDE {
+            all = all & (image[at + i] | spare(i, free));
+            i += 1;
+        }
+        at += STRIDE;
+    }
+    all
+}
+
+fn spare(row: usize, free: u8) -> u8
+    ensures { λ r. ⌜ r ≡ sparedIn row free ⌝ }
+{
+    if row < font::CELL_ROWS { free } else { 0 }
+}
+
 // The least byte with every bit set that must be set there.
 fn least(address: usize) -> u8
     ensures { λ r. ⌜ r ≡ leastAt address ⌝ }
@@ -117,13 +160,28 @@ fn turn(image: &[u8], font: &mut [u16])
 {
     let mut cell = 0usize;
     while cell < font::FONT_CELLS {
+        let rows = cell_rows(image, cell);
         let mut row = 0usize;
         while row < font::CELL_ROWS {
-            font[font::CELL_ROWS * cell + row] = row_at(image, cell, row);
+            font[font::CELL_ROWS * cell + row] = rows[row];
             row += 1;
         }
         cell += 1;
     }
+}
+
+// The rows of a cell, in an array that nothing lent can overlap, so that they are put together many at a time.
+fn cell_rows(image: &[u8], cell: usize) -> [u16; font::CELL_ROWS]
+    requires { ⌜ (length (now image) ≡ imageBytes) × (cell < fontCells) ⌝ }
+    ensures { λ r. ⌜ r ≡ tabulate cellRows (λ k. rowIn (now (image .entry)) (cellRows * cell + k)) ⌝ }
+{
+    let mut rows = [0u16; font::CELL_ROWS];
+    let mut row = 0usize;
+    while row < font::CELL_ROWS {
+        rows[row] = row_at(image, cell, row);
+        row += 1;
+    }
+    rows
 }
 
 fn row_at(image: &[u8], cell: usize, row: usize) -> u16

@@ -10,13 +10,13 @@ use lib.ListN.{take, drop, replicate}
 use lib.Pow.{pow-add}
 use lib.Seq.{take-at, drop-at}
 use Rattle.laws.specs.Pick.{pick}
-use Rattle.dac.specs.declared.Pair.{Pair}
-use Rattle.dac.specs.Wave.{period, subPeriod, subPeriods, added, wave}
+use Rattle.wave.specs.declared.Pair.{Pair}
+use Rattle.wave.specs.Wave.{period, subPeriod, subPeriods, added, wave}
 use Rattle.dac.specs.Running.{halves}
-use Rattle.dac.specs.Steps.{pulse}
+use Rattle.wave.specs.Steps.{pulse}
 use Rattle.periods.specs.Demand.{highs, highClocks, runOf, Shares}
 use Rattle.periods.proofs.Fair.{addedTo, added-le, added-all, run-below, run-above}
-use Rattle.dac.proofs.Within.{length-wave, wave-add, within-sub}
+use Rattle.wave.proofs.Within.{length-wave, wave-add, within-sub}
 
 highs-append : (xs ys : List ℕ) → highs (xs ++ ys) ≡ highs xs + highs ys
 unfolding highs

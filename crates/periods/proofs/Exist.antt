@@ -9,8 +9,8 @@ use mathlib.Core.List.{List, [], _∷_, _++_, append-assoc, append-nil, reverse,
 use native.Mathlib.Nat.{zero-add, add-zero}
 use native.Mathlib.Omega.{arith}
 use lib.ListN.{replicate}
-use Rattle.dac.specs.declared.Pair.{Pair}
-use Rattle.dac.specs.Wave.{period, pair, wave}
+use Rattle.wave.specs.declared.Pair.{Pair}
+use Rattle.wave.specs.Wave.{period, pair, wave}
 use Rattle.dac.specs.Running.{keptHalf}
 use Rattle.periods.specs.Demand.{Event, play, Moment, wroteLow, wroteHigh, clock, momentsOf, moments, history, lastLow, lastPair, since, clocks, unreset, Period, heard, Playable, writtenInto, Writable, Undisturbed}
 use Rattle.periods.specs.Theorems.{Reached}

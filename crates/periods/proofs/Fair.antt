@@ -10,7 +10,7 @@ use borrow.Author.Tests.{eqb-true, ltb-true}
 use Rattle.laws.specs.Pick.{pick, both}
 use Rattle.laws.proofs.Both.{both-parts}
 use Rattle.laws.proofs.Tests.{upto, upto-at}
-use Rattle.dac.specs.Wave.{subPeriods, added, bit}
+use Rattle.wave.specs.Wave.{subPeriods, added, bit}
 use Rattle.dac.specs.Running.{halves}
 
 -- a sub-period gets one clock or none

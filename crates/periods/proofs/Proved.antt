@@ -10,14 +10,15 @@ use lib.Dec.{ltb}
 use lib.ListN.{length, take, drop, length-append}
 use lib.Seq.{take-at, drop-at, drop-length, drop-append-add}
 use borrow.Author.Tests.{ne-eqb, ltb-false}
-use Rattle.dac.specs.declared.Pair.{Pair}
+use Rattle.wave.specs.declared.Pair.{Pair}
 use Rattle.dac.specs.declared.Dac.{Dac}
-use Rattle.dac.specs.Wave.{period, subPeriods, pair, bit, added, wave}
+use Rattle.wave.specs.Wave.{period, subPeriods, pair, bit, added, wave}
 use Rattle.dac.specs.Running.{halves, keptHalf, keptPair, dacOf, kept, nextLevel, clocked, afterClocks, levelsOf}
 use Rattle.dac.specs.Play.{tooMany, afterPlay, levelsPlayed, lentAfter}
 use Rattle.periods.specs.Theorems.{Serves, BothHalves, Joined, Found, Keeps}
 use Rattle.laws.proofs.Lists.{tabulate-same}
-use Rattle.dac.proofs.Within.{wave-is, pair-kept, keptPair-kept, playing-kept, length-levels, levels-split, after-split}
+use Rattle.wave.proofs.Within.{wave-is}
+use Rattle.dac.proofs.Clocks.{pair-kept, keptPair-kept, playing-kept, length-levels, levels-split, after-split}
 use Rattle.dac.proofs.Answers.{may, refused-play, accepted-play}
 use Rattle.periods.proofs.Count.{one-pair}
 

@@ -11,14 +11,14 @@ use native.Mathlib.Omega.{arith}
 use lib.ListN.{length, take, drop, replicate}
 use lib.Seq.{drop-at}
 use Rattle.laws.specs.Pick.{pick}
-use Rattle.dac.specs.declared.Pair.{Pair}
+use Rattle.wave.specs.declared.Pair.{Pair}
 use Rattle.dac.specs.declared.Dac.{Dac}
-use Rattle.dac.specs.Wave.{period, pair, level, wave}
+use Rattle.wave.specs.Wave.{period, pair, level, wave}
 use Rattle.dac.specs.Running.{halves, keptHalf, keptPair, kept, afterReset, lowWritten, highWritten, playing, nextLevel, clocked, afterClocks, levelsOf}
 use Rattle.dac.specs.Play.{tooMany, afterPlay, levelsPlayed}
 use Rattle.periods.specs.Demand.{Event, low, high, play, reset, step, puts, run, output, Moment, wroteLow, wroteHigh, clock, cleared, momentsOf, moments, lastLow, lastPair, since, clocks, unreset, Period, heard, highClocks, Shares, Demand3, Unaltered, history}
 use Rattle.periods.specs.Theorems.{Waves, Placed}
-use Rattle.dac.proofs.Within.{pair-kept, first-plays, later-plays}
+use Rattle.dac.proofs.Clocks.{pair-kept, first-plays, later-plays}
 use Rattle.periods.proofs.Count.{shares}
 
 -- what one moment makes of the record, and what a stretch of them does and puts out

@@ -8,9 +8,9 @@ use mathlib.Core.List.{List, [], _∷_, _++_, reverse}
 use lib.Dec.{eqb}
 use lib.ListN.{length, take, drop, replicate}
 use Rattle.laws.specs.Pick.{pick}
-use Rattle.dac.specs.declared.Pair.{Pair}
+use Rattle.wave.specs.declared.Pair.{Pair}
 use Rattle.dac.specs.declared.Dac.{Dac}
-use Rattle.dac.specs.Wave.{period, subPeriod, subPeriods, pair, wave}
+use Rattle.wave.specs.Wave.{period, subPeriod, subPeriods, pair, wave}
 use Rattle.dac.specs.Running.{keptHalf, afterReset, lowWritten, highWritten}
 use Rattle.dac.specs.Play.{tooMany, afterPlay, levelsPlayed}
 

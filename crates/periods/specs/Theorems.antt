@@ -6,9 +6,9 @@ use mathlib.Core.List.{List, [], _∷_, _++_}
 use mathlib.Core.Bool.{true, false}
 use lib.Count.{trailingZeros}
 use lib.ListN.{length, take, drop, replicate}
-use Rattle.dac.specs.declared.Pair.{Pair}
+use Rattle.wave.specs.declared.Pair.{Pair}
 use Rattle.dac.specs.declared.Dac.{Dac}
-use Rattle.dac.specs.Wave.{period, subPeriods, bit, added, level, wave}
+use Rattle.wave.specs.Wave.{period, subPeriods, bit, added, level, wave}
 use Rattle.dac.specs.Running.{keptPair, kept, afterReset, lowWritten, highWritten, afterClocks, levelsOf}
 use Rattle.dac.specs.Play.{tooMany, afterPlay, levelsPlayed, lentAfter}
 use Rattle.periods.specs.Demand.{Event, play, run, Moment, clock, history, lastPair, since, Period, heard}

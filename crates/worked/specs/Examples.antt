@@ -8,7 +8,7 @@ use mathlib.Core.List.{List, [], _∷_, map}
 use lib.Dec.{eqb}
 use lib.Count.{trailingZeros}
 use Rattle.laws.specs.Pick.{pick}
-use Rattle.dac.specs.Wave.{subPeriod, subPeriods, pair, added, level, wave}
+use Rattle.wave.specs.Wave.{subPeriod, subPeriods, pair, added, level, wave}
 use Rattle.periods.specs.Demand.{highs, highClocks}
 use Rattle.display.specs.declared.Kind.{Kind}
 use Rattle.display.specs.declared.Kind.the-variants.{Character, Space, Return, End}

@@ -2,7 +2,7 @@
 -- Assumes nothing.
 use Prim.Native.Nat.{_%_}
 use borrow.Author.Needs.{needs}
-use Rattle.dac.specs.Wave.{period}
+use Rattle.wave.specs.Wave.{period}
 use Rattle.dac.specs.Running.{dacOf}
 use Rattle.dac.proofs.kept.Statement.{statement}
 use Rattle.dac.proofs.kept.Tie as tie
@@ -24,8 +24,11 @@ cast-t7 c = search needs
 
 returns : tie.Need-returns
 returns c =
-    let p = c .before .before .before in
-    λ i. dacOf (p .before .args .dac .position % period) (p .kept-pair .ensures i) (c .before .before .kept-pair2 .ensures i) (c .before .kept-pair3 .ensures i)
+    let dac = (let p : tie.Start = search in p .args .dac) in
+    let held = (let p : tie.After-kept-pair = search in p .kept-pair .ensures) in
+    let completed = (let p : tie.After-kept-pair2 = search in p .kept-pair2 .ensures) in
+    let in-force = (let p : tie.After-kept-pair3 = search in p .kept-pair3 .ensures) in
+    λ i. dacOf (dac .position % period) (held i) (completed i) (in-force i)
 
 pub kept-spec : {M : Type 1} → statement M
 kept-spec = tie.close (tie.spec kept-pair-requires kept-pair-requires-2 kept-pair-requires-3 cast-t5 cast-t7 returns)

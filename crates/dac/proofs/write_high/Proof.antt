@@ -3,7 +3,7 @@
 use mathlib.Core.Path.{ap}
 use borrow.Author.Needs.{needs}
 use Rattle.dac.specs.declared.Dac.{Dac}
-use Rattle.dac.specs.Wave.{pair}
+use Rattle.wave.specs.Wave.{pair}
 use Rattle.dac.specs.Running.{keptHalf, dacOf}
 use Rattle.dac.proofs.write_high.Statement.{statement}
 use Rattle.dac.proofs.write_high.Tie as tie
@@ -13,8 +13,9 @@ kept-requires c κs = search needs
 
 returns : tie.Need-returns
 returns c =
-    let byte = c .before .args .byte in
-    ap (λ (k : Dac). let made = pair (keptHalf byte) (k .held .fine) in dacOf (k .position) made made (k .in_force)) (c .kept .ensures)
+    let byte = (let p : tie.Start = search in p .args .byte) in
+    let kept = (let p : tie.After-kept = search in p .kept .ensures) in
+    ap (λ (k : Dac). let made = pair (keptHalf byte) (k .held .fine) in dacOf (k .position) made made (k .in_force)) kept
 
 pub write-high-spec : {M : Type 1} → statement M
 write-high-spec = tie.close (tie.spec kept-requires returns)

@@ -33,16 +33,20 @@ loop-less : tie.Need-loop-less Inv-loop μ-loop
 loop-less c = search needs
 
 loop-again : tie.Need-loop-again Inv-loop μ-loop
-loop-again c = let a = c .before .before .before .before .args in let at = c .before .before .before .loop in (
-  omega arith,
-  λ e. ⊎-elim
-      (λ w. absurd (false≢true (sym e ∙ w .1)))
-      (λ w. below-more (λ k. a .bound ≤ getD (a .image .now) (a .from + k) 0) (at .i) (at .inv .1 (sym (w .1) ∙ e)) (omega (arith, w .0 .left)))
-      (c .if1 .came),
-)
+loop-again c =
+    let a = (let p : tie.Start Inv-loop μ-loop = search in p .args) in
+    let l = (let p : tie.At-loop Inv-loop μ-loop = search in p .loop) in (
+      omega arith,
+      λ e. ⊎-elim
+          (λ w. absurd (false≢true (sym e ∙ w .1)))
+          (λ w. below-more (λ k. a .bound ≤ getD (a .image .now) (a .from + k) 0) (l .i) (l .inv .1 (sym (w .1) ∙ e)) (omega (arith, w .0 .left)))
+          (c .if1 .came),
+    )
 
 returns : tie.Need-returns Inv-loop μ-loop
-returns c = λ e k h. c .before .loop .inv .1 e k (omega arith)
+returns c =
+    let l = (let p : tie.At-loop Inv-loop μ-loop = search in p .loop) in
+    λ e k h. l .inv .1 e k (omega arith)
 
 pub falls-below-spec : {M : Type 1} → statement M
 falls-below-spec =

@@ -2,12 +2,13 @@
 -- A period is 16,384 positions, 128 sub-periods of 128 clocks each. A sub-period starts high for as many clocks as the coarse half says,
 -- or for one more if the fine half adds one to it, and is low from there on.
 -- Assumes nothing.
-use Prim.Native.Nat.{ℕ, zero, suc, _+_, _-_, _/_, _%_, _^_}
-use mathlib.Core.List.{List, [], _∷_}
+use Prim.Native.Nat.{ℕ, zero, suc, _+_, _-_, _/_, _%_, _^_, min}
+use mathlib.Core.List.{List, [], _∷_, _++_}
 use lib.Dec.{ltb, eqb}
 use lib.Count.{trailingZeros}
+use lib.ListN.{length, drop}
 use Rattle.laws.specs.Pick.{pick}
-use Rattle.dac.specs.declared.Pair.{Pair}
+use Rattle.wave.specs.declared.Pair.{Pair}
 
 -- in clocks
 abbrev pub period : ℕ
@@ -41,3 +42,11 @@ level q p = pick (ltb (p % subPeriod) (q .coarse + added (q .fine) (p / subPerio
 unfoldable pub wave : Pair → ℕ → ℕ → List ℕ
 wave q a zero = []
 wave q a (suc n) = level q a ∷ wave q (suc a) n
+
+-- Levels stand in the first bytes lent; later bytes stay.
+abbrev pub over : List ℕ → List ℕ → List ℕ
+over levels lent = levels ++ drop (length levels) lent
+
+-- The levels from position a on, laid over bytes lent: as many as there are bytes, and none past the period's end.
+unfoldable pub laid : Pair → ℕ → List ℕ → List ℕ
+laid q a lent = over (wave q a (min (length lent) (period - a))) lent

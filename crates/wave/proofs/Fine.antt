@@ -10,7 +10,7 @@ use borrow.Author.Tests.{eq-eqb, ne-eqb, eqb-true, ltb-true}
 use Rattle.laws.specs.Pick.{pick, both}
 use Rattle.laws.proofs.Both.{both-parts}
 use Rattle.laws.proofs.Tests.{upto, upto-at}
-use Rattle.dac.specs.Wave.{subPeriods, added, bit}
+use Rattle.wave.specs.Wave.{subPeriods, added, bit}
 
 -- Sub-period n ends in z zero bits where its remainder by the next power of two is 2 ^ z.
 ends : ℕ → ℕ → Bool

@@ -1,0 +1,3 @@
+pub mod Fine
+pub mod Unique
+pub mod Within

@@ -1,0 +1,10 @@
+-- No other contents of the bytes lent meet the promise of this crate.
+-- Assumes nothing.
+use mathlib.Core.Path.{refl, sym, ap, _∙_}
+use mathlib.Core.List.{List}
+use Prim.Native.Nat.{ℕ}
+use Rattle.laws.proofs.Determined.{Determines, both-say}
+use Rattle.wave.proofs.lay as lay
+
+pub lay-unique : Determines lay.ended (λ w. lay.clauses (w .𝓤) (w .H) (w .𝓖 .A) (w .𝓜 .mem) (w .𝓡 .run))
+lay-unique w κs a g g′ r r′ ws ws′ = both-say w (λ p q. (refl, ap (λ (l : List ℕ). (l, (tt, (tt, tt)))) (p ∙ sym q)))

@@ -1,0 +1,214 @@
+-- The levels of a wave, joined to what the code writes: within a sub-period a wave is high and then low, and a wave is its first levels and then the
+-- others.
+-- Assumes nothing.
+use Prim.Native.Nat.{ℕ, zero, suc, _+_, _-_, _*_, _/_, _%_, _<_, _≤_, min}
+use mathlib.Core.Path.{_≡_, refl, sym, ap, ap₂, _∙_}
+use mathlib.Core.Bool.{Bool, true, false}
+use mathlib.Core.List.{List, [], _∷_, _++_, append-assoc, append-nil}
+use native.Mathlib.Nat.{zero-add, suc-add, add-suc, add-zero}
+use native.Mathlib.Decide.{decLt}
+use native.Mathlib.Omega.{arith}
+use lib.Dec.{ltb}
+use lib.ListN.{length, take, drop, replicate, length-append, length-drop, length-replicate}
+use lib.Seq.{take-at, drop-at, drop-drop, drop-length, length-take-le}
+use borrow.Author.Tests.{ltb-true, ltb-false}
+use Rattle.laws.specs.Pick.{pick}
+use Rattle.laws.specs.Lists.{tabulate}
+use Rattle.laws.proofs.Lists.{length-tabulate, tabulate-same}
+use Rattle.wave.specs.declared.Pair.{Pair}
+use Rattle.wave.specs.Wave.{period, subPeriod, added, level, wave, laid}
+use Rattle.wave.specs.Steps.{levelBelow, highIn, pulse}
+
+pub wave-is : (q : Pair) (a n : ℕ) → wave q a n ≡ tabulate n (λ k. level q (a + k))
+unfolding wave tabulate
+wave-is q a zero = refl
+wave-is q a (suc n) =
+    ap₂ (λ (l : ℕ) (ls : List ℕ). l ∷ ls) (ap (λ (p : ℕ). level q p) (sym (add-zero a)))
+    (wave-is q (suc a) n ∙ tabulate-same n _ _ (λ k h. let e : suc a + k ≡ a + suc k = omega arith in ap (λ (p : ℕ). level q p) e))
+
+pub length-wave : (q : Pair) (a n : ℕ) → length (wave q a n) ≡ n
+length-wave q a n = ap length (wave-is q a n) ∙ length-tabulate n _
+
+pub wave-add : (q : Pair) (a n m : ℕ) → wave q a (n + m) ≡ wave q a n ++ wave q (a + n) m
+unfolding wave
+wave-add q a zero m = rw (zero-add, add-zero)
+wave-add q a (suc n) m = rw (suc-add, add-suc, ← suc-add) (ap (λ (l : List ℕ). level q a ∷ l) (wave-add q (suc a) n m))
+
+-- one clock of a sub-period that is high for its first x
+module _ (i x n : ℕ) where
+  still-high : i < x → pulse i x (suc n) ≡ 1 ∷ pulse (suc i) x n
+  unfolding pulse
+  still-high h =
+      let a : min (x - i) (suc n) ≡ suc (min (x - suc i) n) = omega arith in
+      let b : suc n - (x - i) ≡ n - (x - suc i) = omega arith in
+      rw (a, b)
+
+  now-low : x ≤ i → pulse i x (suc n) ≡ 0 ∷ pulse (suc i) x n
+  unfolding pulse
+  now-low h =
+      let a : min (x - i) (suc n) ≡ 0 = omega arith in
+      let b : suc n - (x - i) ≡ suc n = omega arith in
+      let c : min (x - suc i) n ≡ 0 = omega arith in
+      let d : n - (x - suc i) ≡ n = omega arith in
+      rw (a, b, c, d)
+
+  one-clock : pick (ltb i x) 1 0 ∷ pulse (suc i) x n ≡ pulse i x (suc n)
+  one-clock = go (ltb i x) refl
+    where
+      go : (b : Bool) → ltb i x ≡ b → pick b 1 0 ∷ pulse (suc i) x n ≡ pulse i x (suc n)
+      go true t = sym (still-high (ltb-true i x t))
+      go false t = sym (now-low (ltb-false i x t))
+
+no-pulse : (i x : ℕ) → [] ≡ pulse i x 0
+unfolding pulse
+no-pulse i x =
+    let a : min (x - i) 0 ≡ 0 = omega arith in
+    let b : 0 - (x - i) ≡ 0 = omega arith in
+    rw (a, b)
+
+level-at : (q : Pair) (s i : ℕ) → i < subPeriod → level q (subPeriod * s + i) ≡ pick (ltb i (q .coarse + added (q .fine) s)) 1 0
+unfolding level
+level-at q s i h =
+    let a : (subPeriod * s + i) % subPeriod ≡ i = omega arith in
+    let b : (subPeriod * s + i) / subPeriod ≡ s = omega arith in
+    rw (a, b)
+
+-- the clocks of sub-period s from its i-th on
+pub within-sub : (q : Pair) (s n i : ℕ) → i + n ≤ subPeriod → wave q (subPeriod * s + i) n ≡ pulse i (q .coarse + added (q .fine) s) n
+unfolding wave
+within-sub q s zero i h = no-pulse i (q .coarse + added (q .fine) s)
+within-sub q s (suc n) i h =
+    let x : ℕ = q .coarse + added (q .fine) s in
+    let rest : wave q (suc (subPeriod * s + i)) n ≡ pulse (suc i) x n = rw (← add-suc) (within-sub q s n (suc i) (omega arith)) in
+    ap₂ (λ (l : ℕ) (ls : List ℕ). l ∷ ls) (level-at q s i (omega arith)) rest ∙ one-clock i x n
+
+-- a sub-period is high for no more clocks than it has
+all-high : (i x n : ℕ) → i + n ≤ x → pulse i x n ≡ replicate n 1 ++ replicate 0 0
+unfolding pulse
+all-high i x n h =
+    let a : min (x - i) n ≡ n = omega arith in
+    let b : n - (x - i) ≡ 0 = omega arith in
+    rw (a, b)
+
+no-longer : (i x n : ℕ) → i + n ≤ subPeriod → pulse i x n ≡ pulse i (min x subPeriod) n
+no-longer i x n h = go (decLt x subPeriod)
+  where
+    go : Dec (x < subPeriod) → pulse i x n ≡ pulse i (min x subPeriod) n
+    go (yes l) = let e : min x subPeriod ≡ x = omega arith in rw e
+    go (no l) =
+        let e : min x subPeriod ≡ subPeriod = omega arith in
+        rw e (all-high i x n (omega arith) ∙ sym (all-high i subPeriod n h))
+
+-- clock by clock
+pub pulse-is : (i x n : ℕ) → pulse i x n ≡ tabulate n (λ k. levelBelow (i + k) x)
+unfolding tabulate
+pulse-is i x zero = sym (no-pulse i x)
+pulse-is i x (suc n) =
+    sym (one-clock i x n)
+    ∙ ap₂ (λ (l : ℕ) (ls : List ℕ). l ∷ ls) (ap (λ (k : ℕ). levelBelow k x) (sym (add-zero i)))
+    (pulse-is (suc i) x n ∙ tabulate-same n _ _ (λ k h. let e : suc i + k ≡ i + suc k = omega arith in ap (λ (p : ℕ). levelBelow p x) e))
+
+-- the clocks of a sub-period by the position a of the first of them
+pub as-pulse : (q : Pair) (a n : ℕ) → a % subPeriod + n ≤ subPeriod → wave q a n ≡ pulse (a % subPeriod) (highIn q (a / subPeriod)) n
+as-pulse q a n h =
+    let e : a ≡ subPeriod * (a / subPeriod) + a % subPeriod = omega arith in
+    ap (λ (p : ℕ). wave q p n) e ∙ within-sub q (a / subPeriod) n (a % subPeriod) h ∙ no-longer (a % subPeriod) (q .coarse + added (q .fine) (a / subPeriod)) n h
+
+pub within-laid : (q : Pair) (a i x n : ℕ) (ls : List ℕ) → i ≡ a % subPeriod → x ≡ highIn q (a / subPeriod) → a % subPeriod + n ≤ subPeriod → ls ≡ pulse i x n → ls ≡ wave q a n
+within-laid q a i x n ls clock high h is = is ∙ rw (clock, high) (sym (as-pulse q a n h))
+
+-- a part written behind the first elements xs: what is lent, and what the whole is after it
+module _ (xs s : List ℕ) (i k : ℕ) (long : length xs ≡ i) where
+  pub behind : take k (drop i (xs ++ s)) ≡ take k s
+  behind = rw (drop-at xs s i long)
+
+  pub put-behind : (ys : List ℕ) → take i (xs ++ s) ++ (ys ++ drop k (drop i (xs ++ s))) ≡ xs ++ (ys ++ drop k s)
+  put-behind ys = rw (take-at xs s i long, drop-at xs s i long)
+
+-- the bytes of a stretch, from its two fills
+module _ (s high low : List ℕ) (i x t : ℕ) (turns : t ≡ min (x - i) (length s)) (e : high ≡ replicate (length (take t s)) 1) where
+  high-is : high ≡ replicate t 1
+  high-is = e ∙ ap (λ (n : ℕ). replicate n 1) (length-take-le t s (omega arith))
+
+  long-high : length high ≡ t
+  long-high = ap length high-is ∙ length-replicate {A = ℕ} t 1
+
+  left : length (high ++ drop t s) - t ≡ length s - t
+  left = omega (arith, length-append high (drop t s), length-drop t s, long-high)
+
+  then-low : length (take (length s - t) (drop t s)) ≡ length s - (x - i)
+  then-low = omega (arith, length-take-le (length s - t) (drop t s) (omega (arith, length-drop t s)))
+
+  none-left : drop (length s - t) (drop t s) ≡ []
+  none-left = let whole : t + (length s - t) ≡ length s = omega arith in rw (drop-drop, whole) (drop-length s)
+
+  pub filled : low ≡ replicate (length (take (length (high ++ drop t s) - t) (drop t (high ++ drop t s)))) 0
+      → take t (high ++ drop t s) ++ (low ++ drop (length (high ++ drop t s) - t) (drop t (high ++ drop t s))) ≡ pulse i x (length s)
+  unfolding pulse
+  filled f =
+      let low-is : low ≡ replicate (length s - (x - i)) 0 = f ∙ rw (left, behind high (drop t s) t (length s - t) long-high, then-low) in
+      put-behind high (drop t s) t (length (high ++ drop t s) - t) long-high low
+      ∙ rw (left, none-left, append-nil low, low-is, high-is, ← turns)
+
+-- l is l₀ with the first i levels of the wave from a position on over it
+pub record Begun (q : Pair) (a i : ℕ) (l l₀ : List ℕ) : Type 0 where
+  pub inside : i ≤ length l₀
+  pub size : length l ≡ length l₀
+  pub is : l ≡ wave q a i ++ drop i l₀
+
+module _ (q : Pair) (a : ℕ) where
+  begun-by : (i : ℕ) (l l₀ : List ℕ) → i ≤ length l₀ → l ≡ wave q a i ++ drop i l₀ → Begun q a i l l₀
+  begun-by i l l₀ h e =
+      record { inside = h; size = ap length e ∙ omega (arith, length-append (wave q a i) (drop i l₀), length-drop i l₀, length-wave q a i); is = e }
+
+  pub begun-none : (l : List ℕ) → Begun q a 0 l l
+  unfolding wave
+  begun-none l = begun-by 0 l l (omega arith) refl
+
+  -- a part is laid behind it, up to e
+  pub begun-more : (i e : ℕ) (l l₀ ys : List ℕ) → Begun q a i l l₀ → i ≤ e → e ≤ length l₀ → ys ≡ wave q (a + i) (e - i)
+      → Begun q a e (take i l ++ (ys ++ drop (e - i) (drop i l))) l₀
+  begun-more i e l l₀ ys g on room is =
+      let whole : i + (e - i) ≡ e = omega arith in
+      let long : length (wave q a i) ≡ i = length-wave q a i in
+      let more : wave q a i ++ wave q (a + i) (e - i) ≡ wave q a e = sym (wave-add q a i (e - i)) ∙ ap (wave q a) whole in
+      begun-by e _ l₀ room
+      (rw (g .is) (put-behind (wave q a i) (drop i l₀) i (e - i) long ys
+      ∙ rw (drop-drop, whole, is) (sym (append-assoc (wave q a i) (wave q (a + i) (e - i)) (drop e l₀)) ∙ ap (λ (w : List ℕ). w ++ drop e l₀) more)))
+
+  pub begun-all : (i : ℕ) (l l₀ : List ℕ) → length l₀ ≤ i → Begun q a i l l₀ → l ≡ wave q a (length l₀)
+  begun-all i l l₀ h g =
+      let all : i ≡ length l₀ = omega (arith, g .inside) in
+      g .is ∙ rw (all, drop-length l₀) (append-nil (wave q a (length l₀)))
+
+  -- What `lay` leaves in s: it writes nothing from the period's end on; the sub-period under way may be all; or the others follow it.
+  module _ (s : List ℕ) where
+    laid-is : (n : ℕ) → n ≡ min (length s) (period - a) → wave q a n ++ drop n s ≡ laid q a s
+    unfolding laid
+    laid-is n e = rw (← e, length-wave q a n)
+
+    pub past-end : period ≤ a → s ≡ laid q a s
+    past-end h = begun-none s .is ∙ laid-is 0 (omega arith)
+
+    head-is : (n : ℕ) (ls : List ℕ) → n ≤ length s → ls ≡ wave q a (length (take n s)) → ls ≡ wave q a n
+    head-is n ls h is = is ∙ ap (wave q a) (length-take-le n s h)
+
+    pub head-laid : (n head : ℕ) (ls : List ℕ) → n ≡ min (length s) (period - a) → head ≡ n → ls ≡ wave q a (length (take head s)) → ls ++ drop head s ≡ laid q a s
+    head-laid n head ls e all is = rw (head-is head ls (omega arith) is, all) (laid-is n e)
+
+    pub on-laid : (n head : ℕ) (ls ms : List ℕ) → n ≡ min (length s) (period - a) → head ≤ n → ls ≡ wave q a (length (take head s))
+        → ms ≡ wave q (a + head) (length (take (n - head) (drop head (ls ++ drop head s))))
+        → take head (ls ++ drop head s) ++ (ms ++ drop (n - head) (drop head (ls ++ drop head s))) ≡ laid q a s
+    on-laid n head ls ms e h is then =
+        let first : Begun q a head (ls ++ drop head s) s = begun-by head _ s (omega arith) (ap (λ (w : List ℕ). w ++ drop head s) (head-is head ls (omega arith) is)) in
+        let room : length (take (n - head) (drop head (ls ++ drop head s))) ≡ n - head =
+        length-take-le (n - head) _ (omega (arith, length-drop head (ls ++ drop head s), first .size)) in
+        begun-more head n _ s ms first h (omega arith) (then ∙ ap (wave q (a + head)) room) .is ∙ laid-is n e
+
+-- where the bytes are no more than the period has left
+pub laid-all : (q : Pair) (a : ℕ) (s : List ℕ) → a + length s ≤ period → laid q a s ≡ wave q a (length s)
+laid-all q a s h = sym (laid-is q a s (length s) (omega arith)) ∙ rw (drop-length s) (append-nil (wave q a (length s)))
+
+-- and where the period ends before they do
+pub laid-cut : (q : Pair) (a : ℕ) (s : List ℕ) (left : ℕ) → left ≡ period - a → left ≤ length s → laid q a s ≡ wave q a left ++ drop left s
+laid-cut q a s left e h = sym (laid-is q a s left (omega arith))

@@ -1,0 +1,147 @@
+// The levels that a pair gives over a period of the DAC. A period is 128 sub-periods of 128 clocks, each of them high first and then low.
+ghost use mathlib.Core.Path.{_≡_};
+ghost use Prim.Native.Nat.{_+_, _-_, _%_, _<_, _≤_, min};
+ghost use lib.ListN.{length};
+ghost use Rattle.wave.specs.Wave.{period, subPeriod, subPeriods, added as addedOf, wave, laid};
+ghost use Rattle.wave.specs.Steps.{levelBelow, highIn, pulse};
+
+// In clocks.
+pub const PERIOD: usize = 16384;
+
+const SUB_PERIOD: usize = 128;
+
+#[repr(C)]
+pub struct Pair {
+    pub coarse: u8,
+    pub fine: u8,
+}
+
+// Lays the levels that a pair gives from a position on over the bytes lent, 1 for high and 0 for low, as far as the bytes and the period reach: first those
+// of the sub-period under way, where most calls of few clocks end.
+pub fn lay(levels: &mut [u8], pair: Pair, from: usize)
+    ensures { λ _. ⌜ now (levels .exit) ≡ laid pair from (now (levels .entry)) ⌝ }
+{
+    if PERIOD <= from {
+        return;
+    }
+    let n = least(levels.len(), PERIOD - from);
+    let head = least(n, SUB_PERIOD - from % SUB_PERIOD);
+    lay_within(&mut levels[..head], pair, from);
+    if n <= head {
+        return;
+    }
+    lay_on(&mut levels[head..n], pair, from + head);
+}
+
+// The same from the first clock of a sub-period on: whole sub-periods, with no call between them, and what is left.
+fn lay_on(levels: &mut [u8], pair: Pair, from: usize)
+    requires { ⌜ (from + length (now levels) ≤ period) × (from % subPeriod ≡ 0) ⌝ }
+    ensures { λ _. ⌜ now (levels .exit) ≡ wave pair from (length (now (levels .entry))) ⌝ }
+{
+    let mut i = 0usize;
+    while SUB_PERIOD <= levels.len() - i {
+        let end = i + SUB_PERIOD;
+        let high = high_in(pair, (from + i) / SUB_PERIOD);
+        whole(&mut levels[i..end], ((from + i) % SUB_PERIOD) as u8, high);
+        i = end;
+    }
+    if levels.len() <= i {
+        return;
+    }
+    lay_within(&mut levels[i..], pair, from + i);
+}
+
+// The same within one sub-period.
+fn lay_within(levels: &mut [u8], pair: Pair, from: usize)
+    requires { ⌜ (from < period) × (from % subPeriod + length (now levels) ≤ subPeriod) ⌝ }
+    ensures { λ _. ⌜ now (levels .exit) ≡ wave pair from (length (now (levels .entry))) ⌝ }
+{
+    let clock = from % SUB_PERIOD;
+    let high = high_in(pair, from / SUB_PERIOD);
+    if levels.len() == SUB_PERIOD {
+        whole(levels, clock as u8, high);
+        return;
+    }
+    stretch(levels, clock, high as usize);
+}
+
+// The levels of a whole sub-period, clock by clock. The first clock is 0; it comes from the caller so that clocks are counted and compared as bytes,
+// many at a time.
+fn whole(levels: &mut [u8], clock: u8, high: u8)
+    requires { ⌜ (length (now levels) ≡ subPeriod) × (clock ≡ 0) ⌝ }
+    ensures { λ _. ⌜ now (levels .exit) ≡ pulse 0 high subPeriod ⌝ }
+{
+    let mut c = clock;
+    let mut i = 0usize;
+    while i < SUB_PERIOD {
+        levels[i] = level_below(c, high);
+        c += 1;
+        i += 1;
+    }
+}
+
+fn level_below(clock: u8, high: u8) -> u8
+    ensures { λ r. ⌜ r ≡ levelBelow clock high ⌝ }
+{
+    if clock < high { 1 } else { 0 }
+}
+
+// Fills the bytes with the levels from a clock of a sub-period on: its high clocks, then its low ones.
+fn stretch(levels: &mut [u8], clock: usize, high: usize)
+    ensures { λ _. ⌜ now (levels .exit) ≡ pulse clock high (length (now (levels .entry))) ⌝ }
+{
+    let turn = least(beyond(high, clock), levels.len());
+    fill::fill(&mut levels[..turn], 1);
+    fill::fill(&mut levels[turn..], 0);
+}
+
+// How many clocks of sub-period n are high.
+fn high_in(pair: Pair, n: usize) -> u8
+    requires { ⌜ n < subPeriods ⌝ }
+    ensures { λ r. ⌜ r ≡ highIn pair n ⌝ }
+{
+    let more = added(pair.fine, n);
+    least(pair.coarse as usize + more as usize, SUB_PERIOD) as u8
+}
+
+// The clock that a fine half adds to sub-period n.
+fn added(fine: u8, n: usize) -> u8
+    requires { ⌜ n < subPeriods ⌝ }
+    ensures { λ r. ⌜ r ≡ addedOf fine n ⌝ }
+{
+    if n % 2 != 0 {
+        return fine / 64 % 2;
+    }
+    if n % 4 != 0 {
+        return fine / 32 % 2;
+    }
+    if n % 8 != 0 {
+        return fine / 16 % 2;
+    }
+    if n % 16 != 0 {
+        return fine / 8 % 2;
+    }
+    if n % 32 != 0 {
+        return fine / 4 % 2;
+    }
+    if n % 64 != 0 {
+        return fine / 2 % 2;
+    }
+    if n != 0 {
+        return fine % 2;
+    }
+    0
+}
+
+fn least(a: usize, b: usize) -> usize
+    ensures { λ r. ⌜ r ≡ min a b ⌝ }
+{
+    if a < b { a } else { b }
+}
+
+// How far a is beyond b, or 0.
+fn beyond(a: usize, b: usize) -> usize
+    ensures { λ r. ⌜ r ≡ a - b ⌝ }
+{
+    if b < a { a - b } else { 0 }
+}
