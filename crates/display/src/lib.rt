@@ -188,11 +188,7 @@ fn cell_step(words: &[u16], font: &[u16], view: View, pen: Pen, out: &mut [u8])
             row_step(rest, font, view, y, size, pen.background, out)
         }
         Kind::Space { background } => cell_step(rest, font, view, right(pen, background), out),
-        Kind::Character {
-            colour: _,
-            code: _,
-            blink: _,
-        } => cell_step(rest, font, view, right(pen, pen.background), out),
+        Kind::Character { .. } => cell_step(rest, font, view, right(pen, pen.background), out),
     }
 }
 
@@ -221,11 +217,7 @@ fn row_end(words: &[u16], background: u8) -> RowEnd
             Kind::Space { background: own } => {
                 back = own;
             }
-            Kind::Character {
-                colour: _,
-                code: _,
-                blink: _,
-            } => {}
+            Kind::Character { .. } => {}
         }
     }
     RowEnd::Over
@@ -318,10 +310,7 @@ fn draw(cell: Placed, background: u8, font: &[u16], view: View, out: &mut [u8])
             let off = unlit(view.mode, own);
             stretch::stretch(out, x, size as u8, 0, off, off);
         }
-        Kind::Return {
-            size: _,
-            spacing: _,
-        } => {}
+        Kind::Return { .. } => {}
         Kind::End => {}
     }
 }
