@@ -2,15 +2,18 @@
 -- Assumes nothing.
 use mathlib.Core.Path.{_≡_, refl, sym, subst}
 use mathlib.Core.Bool.{Bool, true, false}
-use Prim.Native.Nat.{ℕ}
+use Prim.Native.Nat.{ℕ, _<_, _≤_}
 use native.Mathlib.Omega.{arith}
 use borrow.Author.Tests.{eqb-false}
 use lib.Dec.{eqb}
 use Rattle.laws.specs.Pick.{pick}
+use Rattle.font.specs.Font.{fontCells}
+use Rattle.units.specs.declared.Lines.{Lines}
+use Rattle.judging.specs.Judging.{mostColour}
 use Rattle.display.specs.declared.Kind.{Kind}
 use Rattle.display.specs.declared.Kind.the-variants.{Character, Space, Return, End}
 use Rattle.display.specs.Words.{codeOf, returnCode, spaceCode, colourOf, markOf, sizeOf, spacingOf, kindOf}
-use Rattle.display.specs.Steps.{Sound}
+use Rattle.display.specs.Steps.{mostSize, mostSpacing, Sound}
 
 sound-space : (w : ℕ) (end : Bool) → Sound (pick end End (Space (colourOf w)))
 sound-space w true = tt
@@ -29,3 +32,14 @@ sound-code w false e = sound-other w (eqb (codeOf w) returnCode) refl e
 pub sound : (w : ℕ) (kd : Kind) → kd ≡ kindOf w → Sound kd
 unfolding kindOf
 sound w kd e = subst Sound (sym e) (sound-code w (eqb (codeOf w) spaceCode) refl)
+
+-- its parts, where the kind is known
+module _ (kd : Kind) where
+  pub character-sound : (colour code : ℕ) (blink : Bool) → kd ≡ Character colour code blink → Sound kd → (colour ≤ mostColour) × (code < fontCells)
+  character-sound colour code blink told s = rw told at s
+
+  pub own-sound : (own : ℕ) → kd ≡ Space own → Sound kd → own ≤ mostColour
+  own-sound own told s = rw told at s
+
+  pub return-sound : (size : ℕ) (spacing : Lines) → kd ≡ Return size spacing → Sound kd → (1 ≤ size) × ((size ≤ mostSize) × (spacing .0 ≤ mostSpacing))
+  return-sound size spacing told s = rw told at s

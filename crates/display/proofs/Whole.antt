@@ -1,6 +1,6 @@
 -- The line with the display on; and what a call leaves: an accepted one the line and the bytes after it, a refused one all as it was.
 -- Assumes nothing.
-use mathlib.Core.Path.{_≡_, ap, _∙_}
+use mathlib.Core.Path.{_≡_, sym, ap, _∙_}
 use mathlib.Core.Bool.{Bool, true, false}
 use mathlib.Core.List.{List, [], _∷_, _++_}
 use Prim.Native.Nat.{ℕ, _≤_}
@@ -20,29 +20,41 @@ use Rattle.judging.specs.declared.Settings.{Settings}
 use Rattle.judging.specs.declared.Painted.{Painted}
 use Rattle.judging.specs.declared.Painted.the-variants.{Done}
 use Rattle.judging.specs.Judging.{answerOf, said}
-use Rattle.judging.proofs.Accepted.{done-is, not-done}
+use Rattle.judging.proofs.Accepted.{accepted-done, done-is, not-done}
 use Rattle.judging.proofs.Painted.{the-type}
 use Rattle.display.specs.declared.View.{View}
 use Rattle.display.specs.Cells.{rowPen}
 use Rattle.display.specs.Picture.{video, outsideByte, litIn, dotAt}
 use Rattle.display.specs.Painting.{firstDot, firstLine, screenOf, viewOf, dotOf, lineOf, leftBy}
-use Rattle.display.specs.Steps.{painted}
+use Rattle.display.specs.Steps.{painted, Usable}
 use Rattle.display.proofs.Join.{joined}
 
 -- a line of outside bytes, painted over by the cells in turn
-pub on-line : (words font : List ℕ) (s : Settings) (frame : ℕ) (line : Lines) (lit : Bool) (n : ℕ) (mid last : List ℕ) → lit ≡ litIn (s .ratio) (s .frequency) frame
-    → mid ≡ replicate n (outsideByte (s .mode) (s .colour))
+pub on-line : (words font : List ℕ) (s : Settings) (frame : ℕ) (line : Lines) (lit : Bool) (n other : ℕ) (mid last : List ℕ) → lit ≡ litIn (s .ratio) (s .frequency) frame
+    → other ≡ outsideByte (s .mode) (s .colour) → mid ≡ replicate n other
     → last ≡ overlay (painted font (record { left = firstDot s; line = line; mode = s .mode; lit = lit }) (screenOf words s)) mid
     → last ≡ tabulate n (dotAt font (viewOf s frame line) (s .colour) (screenOf words s))
 unfolding dotAt
-on-line words font s frame line lit n mid last blink filled walked =
+on-line words font s frame line lit n other mid last blink shade filled walked =
     let view : Bool → View = λ b. record { left = firstDot s; line = line; mode = s .mode; lit = b } in
-    let other = outsideByte (s .mode) (s .colour) in
     walked
-    ∙ ap (λ (t : List ℕ). overlay (painted font (view lit) (screenOf words s)) t) filled
-    ∙ overlay-filled (painted font (view lit) (screenOf words s)) other n
-    ∙ tabulate-same n _ _ (λ k lt. joined (view lit) (firstDot s) k font words (rowPen (firstDot s) (firstLine s) 1 (s .colour)) other)
+    ∙ ap (λ (t : List ℕ). overlay (painted font (view lit) (screenOf words s)) t) (filled ∙ ap (λ (b : ℕ). replicate n b) shade)
+    ∙ overlay-filled (painted font (view lit) (screenOf words s)) (outsideByte (s .mode) (s .colour)) n
+    ∙ tabulate-same n _ _ (λ k lt. joined (view lit) (firstDot s) k font words (rowPen (firstDot s) (firstLine s) 1 (s .colour)) (outsideByte (s .mode) (s .colour)))
     ∙ ap (λ (b : Bool). tabulate n (dotAt font (view b) (s .colour) (screenOf words s))) blink
+
+-- what an accepted call has shown
+module _ (words font : List ℕ) (s : Settings) (line : Lines) (width : Dots) (out : List ℕ) (r : Painted) (e : said r ≡ answerOf words font s line width (length out)) (done : r ≡ Done) where
+  pub room-there : width .0 ≤ length out
+  room-there = accepted-done words font s line width (length out) r e done .fits
+
+  pub part-there : width .0 ≡ length (take (width .0) out)
+  part-there = sym (length-take-le (width .0) out room-there)
+
+  pub usable : Usable words font s
+  usable =
+      let acc = accepted-done words font s line width (length out) r e done in
+      record { words = acc .words64; rows = acc .rows; colour = acc .colour; h = acc .h; v = acc .v; ratio = acc .ratio; frequency = acc .frequency }
 
 module _ (words font : List ℕ) (s : Settings) (frame : ℕ) (line : Lines) (width : Dots) (out : List ℕ) (r : Painted) (e : said r ≡ answerOf words font s line width (length out)) where
   pub refused-leaves : OneOf (1 ∷ 2 ∷ 3 ∷ 4 ∷ 5 ∷ 6 ∷ []) (tagOf the-type r) → out ≡ leftBy words font s frame line width out
@@ -50,7 +62,7 @@ module _ (words font : List ℕ) (s : Settings) (frame : ℕ) (line : Lines) (wi
   refused-leaves other =
       simp (ne-eqb (answerOf words font s line width (length out) .number) 0 (λ z. not-done r other (ap (λ (a : Said). a .number) e ∙ z)))
 
-  module _ (done : r ≡ Done) (fits : width .0 ≤ length out) (last : List ℕ) where
+  module _ (done : r ≡ Done) (last : List ℕ) where
     leaves : last ≡ lineOf words font s frame line width → last ++ drop (width .0) out ≡ leftBy words font s frame line width out
     unfolding leftBy
     leaves l =
@@ -63,7 +75,7 @@ module _ (words font : List ℕ) (s : Settings) (frame : ℕ) (line : Lines) (wi
     shown on l =
         leaves
         (l
-        ∙ ap (λ (n : ℕ). tabulate n (dotAt font (viewOf s frame line) (s .colour) (screenOf words s))) (length-take-le (width .0) out fits)
+        ∙ ap (λ (n : ℕ). tabulate n (dotAt font (viewOf s frame line) (s .colour) (screenOf words s))) (sym (part-there words font s line width out r e done))
         ∙ tabulate-same (width .0) (dotAt font (viewOf s frame line) (s .colour) (screenOf words s)) (dotOf words font s frame line) (λ k lt. simp on))
 
     pub dark : s .on ≡ false → last ≡ replicate (length (take (width .0) out)) video → last ++ drop (width .0) out ≡ leftBy words font s frame line width out
@@ -71,6 +83,6 @@ module _ (words font : List ℕ) (s : Settings) (frame : ℕ) (line : Lines) (wi
     dark off l =
         leaves
         (l
-        ∙ ap (λ (n : ℕ). replicate n video) (length-take-le (width .0) out fits)
+        ∙ ap (λ (n : ℕ). replicate n video) (sym (part-there words font s line width out r e done))
         ∙ tabulate-constant video (width .0)
         ∙ tabulate-same (width .0) (λ k. video) (dotOf words font s frame line) (λ k lt. simp off))

@@ -2,16 +2,19 @@
 -- account's list of cells.
 -- Assumes nothing.
 use Prim.Native.Nat.{ℕ, suc, _+_, _-_, _*_, _/_, _≤_, _<_}
+use mathlib.Core.Path.{_≡_}
 use mathlib.Core.List.{List, [], _∷_}
 use mathlib.Core.Bool.{Bool}
 use Rattle.laws.specs.Pick.{pick}
 use Rattle.laws.specs.Lines.{lastShown}
-use Rattle.font.specs.Font.{fontCells, cellRows, cellColumns, rowOf}
+use lib.ListN.{length}
+use Rattle.font.specs.Font.{fontCells, fontRows, cellRows, cellColumns, rowOf}
 use Rattle.units.specs.declared.Lines.{Lines}
 use Rattle.judging.specs.declared.Settings.{Settings}
-use Rattle.judging.specs.Judging.{mostColour, mostPlace, mostFrequency}
+use Rattle.judging.specs.Judging.{wordCount, mostColour, mostPlace, mostFrequency}
 use Rattle.display.specs.declared.Pen.{Pen}
 use Rattle.display.specs.declared.View.{View}
+use Rattle.display.specs.declared.Placed.{Placed}
 use Rattle.display.specs.declared.Kind.{Kind}
 use Rattle.display.specs.declared.Kind.the-variants.{Character, Space, Return, End}
 use Rattle.display.specs.declared.RowEnd.{RowEnd}
@@ -63,12 +66,22 @@ Sound (Return size spacing) = (1 ≤ size) × ((size ≤ mostSize) × (spacing .
 Sound End = Unit
 
 -- what the end of a row says is in range, and its words are there
+pub record NextSound (n read next : ℕ) (gap : Lines) (back : ℕ) : Type 0 where
+  pub some : 1 ≤ read
+  pub there : read ≤ n
+  pub high : 1 ≤ next
+  pub size : next ≤ mostSize
+  pub spacing : gap .0 ≤ mostSpacing
+  pub colour : back ≤ mostColour
+
 abbrev pub EndSound : ℕ → RowEnd → Type 0
 EndSound n Over = Unit
-EndSound n (Next read size spacing background) = ((1 ≤ read) × (read ≤ n)) × (((1 ≤ size) × (size ≤ mostSize)) × ((spacing .0 ≤ mostSpacing) × (background ≤ mostColour)))
+EndSound n (Next read size spacing background) = NextSound n read size spacing background
 
--- settings that the painter's arithmetic takes
-pub record Usable (s : Settings) : Type 0 where
+-- what `paint_line` asks: words, a font, and settings that the painter's arithmetic takes
+pub record Usable (ws font : List ℕ) (s : Settings) : Type 0 where
+  pub words : length ws ≡ wordCount
+  pub rows : length font ≡ fontRows
   pub colour : s .colour ≤ mostColour
   pub h : s .h ≤ mostPlace
   pub v : s .v ≤ mostPlace
@@ -83,3 +96,34 @@ pub record Room (v : View) (p : Pen) (n : ℕ) : Type 0 where
   pub some : 1 ≤ p .size
   pub size : p .size ≤ mostSize
   pub colour : p .background ≤ mostColour
+
+-- the line cuts a row of this size at y
+pub record Cut (v : View) (y : Lines) (size : ℕ) : Type 0 where
+  pub from : y .0 ≤ v .line .0
+  pub to : v .line .0 < y .0 + cellRows * size
+
+-- what `row_step` asks, and `cell_step` in the row that the line cuts
+pub record RowAsks (font : List ℕ) (v : View) (p : Pen) (n : ℕ) : Type 0 where
+  pub rows : length font ≡ fontRows
+  pub room : Room v p n
+
+pub record CellAsks (font : List ℕ) (v : View) (p : Pen) (n : ℕ) : Type 0 where
+  pub rows : length font ≡ fontRows
+  pub room : Room v p n
+  pub cut : Cut v (p .y) (p .size)
+
+-- what `draw` asks: a word that was decoded, in such a row
+pub record DrawAsks (font : List ℕ) (v : View) (c : Placed) (background : ℕ) : Type 0 where
+  pub rows : length font ≡ fontRows
+  pub sound : Sound (c .kind)
+  pub colour : background ≤ mostColour
+  pub some : 1 ≤ c .size
+  pub size : c .size ≤ mostSize
+  pub cut : Cut v (c .y) (c .size)
+
+-- what `shown_bits` asks: a character of the font
+pub record BitsAsks (font : List ℕ) (v : View) (y : Lines) (size shown : ℕ) : Type 0 where
+  pub rows : length font ≡ fontRows
+  pub code : shown < fontCells
+  pub some : 1 ≤ size
+  pub cut : Cut v y size

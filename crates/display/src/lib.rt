@@ -1,16 +1,15 @@
 // The painter of the on-screen display: one line of dots from display words, font, settings and frame number.
 ghost use mathlib.Core.Path.{_≡_};
-ghost use Prim.Native.Nat.{_+_, _*_, _≤_, _<_};
+ghost use Prim.Native.Nat.{_≤_};
 ghost use lib.ListN.{length};
 ghost use Rattle.laws.specs.Lines.{overlay};
 ghost use Rattle.laws.specs.Lists.{tabulate};
-ghost use Rattle.font.specs.Font.{fontCells, fontRows, cellRows};
-ghost use Rattle.judging.specs.Judging.{answerOf, said, wordCount, mostColour};
+ghost use Rattle.judging.specs.Judging.{answerOf, said, mostColour};
 ghost use Rattle.display.specs.Words.{kindOf};
 ghost use Rattle.display.specs.Cells.{placedWord, cellOf, rightOf, belowRow, rowPen, cellsFrom};
 ghost use Rattle.display.specs.Picture.{unlitByte, outsideByte, divisorOf, litIn, dotAt};
 ghost use Rattle.display.specs.Painting.{viewOf, screenOf, leftBy};
-ghost use Rattle.display.specs.Steps.{painted, shownBits, rowEnd, mostSize, mostSpacing, far, Usable, Sound, EndSound, Room};
+ghost use Rattle.display.specs.Steps.{painted, shownBits, rowEnd, mostSize, mostSpacing, far, Sound, EndSound, Usable, RowAsks, CellAsks, DrawAsks, BitsAsks};
 use judging::Painted;
 use judging::Settings;
 use units::Dots;
@@ -107,7 +106,7 @@ fn paint_line(
     line: Lines,
     out: &mut [u8],
 )
-    requires { ⌜ (length (now words) ≡ wordCount) × ((length (now font) ≡ fontRows) × Usable settings) ⌝ }
+    requires { ⌜ Usable (now words) (now font) settings ⌝ }
     ensures { λ _. ⌜ now (out .exit) ≡ tabulate (length (now (out .entry))) (dotAt (now (font .entry)) (viewOf settings frame line) (settings .colour) (screenOf (now (words .entry)) settings)) ⌝ }
 {
     let lit = blink_lit(settings.ratio, settings.frequency, frame);
@@ -133,7 +132,7 @@ fn row_step(
     background: u8,
     out: &mut [u8],
 )
-    requires { ⌜ (length (now font) ≡ fontRows) × Room view (rowPen (view .left) y size background) (length (now words)) ⌝ }
+    requires { ⌜ RowAsks (now font) view (rowPen (view .left) y size background) (length (now words)) ⌝ }
     ensures { λ _. ⌜ now (out .exit) ≡ overlay (painted (now (font .entry)) view (cellsFrom (view .left) (now (words .entry)) (rowPen (view .left) y size background))) (now (out .entry)) ⌝ }
 {
     let line = view.line.0;
@@ -172,7 +171,7 @@ fn row_step(
 
 // The first of these words stands at the pen, in the row that the line cuts.
 fn cell_step(words: &[u16], font: &[u16], view: View, pen: Pen, out: &mut [u8])
-    requires { ⌜ (length (now font) ≡ fontRows) × (Room view pen (length (now words)) × ((pen .y .0 ≤ view .line .0) × (view .line .0 < pen .y .0 + cellRows * pen .size))) ⌝ }
+    requires { ⌜ CellAsks (now font) view pen (length (now words)) ⌝ }
     ensures { λ _. ⌜ now (out .exit) ≡ overlay (painted (now (font .entry)) view (cellsFrom (view .left) (now (words .entry)) pen)) (now (out .entry)) ⌝ }
 {
     if words.len() == 0 {
@@ -189,11 +188,7 @@ fn cell_step(words: &[u16], font: &[u16], view: View, pen: Pen, out: &mut [u8])
             row_step(rest, font, view, y, size, pen.background, out)
         }
         Kind::Space { background } => cell_step(rest, font, view, right(pen, background), out),
-        Kind::Character {
-            colour: _,
-            code: _,
-            blink: _,
-        } => cell_step(rest, font, view, right(pen, pen.background), out),
+        Kind::Character { .. } => cell_step(rest, font, view, right(pen, pen.background), out),
     }
 }
 
@@ -222,11 +217,7 @@ fn row_end(words: &[u16], background: u8) -> RowEnd
             Kind::Space { background: own } => {
                 back = own;
             }
-            Kind::Character {
-                colour: _,
-                code: _,
-                blink: _,
-            } => {}
+            Kind::Character { .. } => {}
         }
     }
     RowEnd::Over
@@ -298,7 +289,7 @@ fn decode(word: u16) -> Kind
 
 // Paints the cell of a word in the row that the line cuts; `background` is the one before the word.
 fn draw(cell: Placed, background: u8, font: &[u16], view: View, out: &mut [u8])
-    requires { ⌜ (length (now font) ≡ fontRows) × (Sound (cell .kind) × ((background ≤ mostColour) × (((1 ≤ cell .size) × (cell .size ≤ mostSize)) × ((cell .x .0 ≤ far) × ((cell .y .0 ≤ view .line .0) × (view .line .0 < cell .y .0 + cellRows * cell .size)))))) ⌝ }
+    requires { ⌜ DrawAsks (now font) view cell background ⌝ }
     ensures { λ _. ⌜ now (out .exit) ≡ overlay (painted (now (font .entry)) view (cellOf cell background)) (now (out .entry)) ⌝ }
 {
     let kind = cell.kind;
@@ -319,27 +310,24 @@ fn draw(cell: Placed, background: u8, font: &[u16], view: View, out: &mut [u8])
             let off = unlit(view.mode, own);
             stretch::stretch(out, x, size as u8, 0, off, off);
         }
-        Kind::Return {
-            size: _,
-            spacing: _,
-        } => {}
+        Kind::Return { .. } => {}
         Kind::End => {}
     }
 }
 
 // The bits of a character's row that the line cuts: none where it is blinked out.
 fn shown_bits(font: &[u16], view: View, y: Lines, size: usize, code: usize, blink: bool) -> u16
-    requires { ⌜ (length (now font) ≡ fontRows) × ((code < fontCells) × ((1 ≤ size) × ((y .0 ≤ view .line .0) × (view .line .0 < y .0 + cellRows * size)))) ⌝ }
+    requires { ⌜ BitsAsks (now font) view y size code ⌝ }
     ensures { λ r. ⌜ r ≡ shownBits (now (font .entry)) view y size code blink ⌝ }
 {
-    if blink {
-        if !view.lit {
-            return 0;
-        }
-    }
     let line = view.line.0;
     let at = font::CELL_ROWS * code + (line - y.0) / size;
-    font[at]
+    let bits = font[at];
+    if blink {
+        if view.lit { bits } else { 0 }
+    } else {
+        bits
+    }
 }
 
 // An unlit dot of a cell, and each dot of a space.

@@ -24,19 +24,19 @@ use Rattle.judging.specs.Judging.{wordCount, inRange, areWords, onScreen
 use Rattle.judging.proofs.Painted.{the-type}
 
 module _ (s : Settings) where
-  pub bad-mode : 3 < s .mode → inRange s ≡ false
+  pub bad-mode : 3 < s .mode → false ≡ inRange s
   bad-mode h = simp (lt-leb (s .mode) 3 h)
 
-  pub bad-colour : 7 < s .colour → inRange s ≡ false
+  pub bad-colour : 7 < s .colour → false ≡ inRange s
   bad-colour h = simp (lt-leb (s .colour) 7 h, both-none)
 
-  pub bad-h : 63 < s .h → inRange s ≡ false
+  pub bad-h : 63 < s .h → false ≡ inRange s
   bad-h h = simp (lt-leb (s .h) 63 h, both-none)
 
-  pub bad-v : 63 < s .v → inRange s ≡ false
+  pub bad-v : 63 < s .v → false ≡ inRange s
   bad-v h = simp (lt-leb (s .v) 63 h, both-none)
 
-  pub bad-ratio : 3 < s .ratio → inRange s ≡ false
+  pub bad-ratio : 3 < s .ratio → false ≡ inRange s
   bad-ratio h = simp (lt-leb (s .ratio) 3 h, both-none)
 
   pub last-test : s .mode ≤ 3 → s .colour ≤ 7 → s .h ≤ 63 → s .v ≤ 63 → s .ratio ≤ 3 → leb (s .frequency) 3 ≡ inRange s

@@ -20,13 +20,16 @@ rem-result c = search needs
 
 mul-result : tie.Need-mul-result
 mul-result c =
-    let r : 3 - c .before .args .ratio ≤ 3 = omega arith in
-    let d : c .divisor .result ≤ 128 = omega arith in
-    omega (arith, mul-le-mul r d)
+    let a = (let s : tie.Start = search in s .args) in
+    let part : 3 - a .ratio ≤ 3 = omega arith in
+    let frames : (let d : tie.After-divisor = search in d .divisor .result) ≤ 128 = omega arith in
+    omega (arith, mul-le-mul part frames)
 
 returns : tie.Need-returns
 returns c =
-    ap (λ (n : ℕ). ltb (c .before .args .frame % n) ((3 - c .before .args .ratio) * n / 4)) (c .divisor .ensures .0)
+    let a = (let s : tie.Start = search in s .args) in
+    let divisor = (let d : tie.After-divisor = search in d .divisor .ensures .0) in
+    ap (λ (n : ℕ). ltb (a .frame % n) ((3 - a .ratio) * n / 4)) divisor
 
 pub blink-lit-spec : {M : Type 1} → statement M
 blink-lit-spec = tie.close (tie.spec divisor-requires sub-part rem-result mul-result returns)

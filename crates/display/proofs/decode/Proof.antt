@@ -1,8 +1,11 @@
 -- `display::decode`: each return by the tests of the code and of T0.
 -- Assumes nothing.
+use mathlib.Core.Path.{_≡_}
+use mathlib.Core.Bool.{true, false}
 use borrow.Author.Tests.{eq-eqb, ne-eqb}
 use native.Mathlib.Omega.{arith}
-use Rattle.display.specs.Words.{codeOf, spaceCode, kindOf}
+use lib.Dec.{eqb}
+use Rattle.display.specs.Words.{codeOf, returnCode, spaceCode, markOf, kindOf}
 use borrow.Author.Needs.{needs}
 use Rattle.display.proofs.decode.Statement.{statement}
 use Rattle.display.proofs.decode.Tie as tie
@@ -30,19 +33,35 @@ cast-t22 c = search needs
 
 returns : tie.Need-returns
 unfolding kindOf
-returns c = simp (eq-eqb _ _ (c .before .match .keys1), eq-eqb _ _ (c .if1 .taken))
+returns c =
+    let w = (let s : tie.Start = search in s .args .word) in
+    let space : eqb (codeOf w) spaceCode ≡ true = omega (arith, eq-eqb) in
+    let end : markOf w ≡ true = omega (arith, eq-eqb) in
+    simp (space, end)
 
 returns-2 : tie.Need-returns-2
 unfolding kindOf
-returns-2 c = simp (eq-eqb _ _ (c .before .match .keys1), ne-eqb _ _ (c .if1 .left))
+returns-2 c =
+    let w = (let s : tie.Start = search in s .args .word) in
+    let space : eqb (codeOf w) spaceCode ≡ true = omega (arith, eq-eqb) in
+    let end : markOf w ≡ false = omega (arith, ne-eqb) in
+    simp (space, end)
 
 returns-3 : tie.Need-returns-3
 unfolding kindOf
-returns-3 c = simp (ne-eqb (codeOf (c .before .args .word)) spaceCode (λ e. omega (arith, e, c .match .keys2)), eq-eqb _ _ (c .match .keys2))
+returns-3 c =
+    let w = (let s : tie.Start = search in s .args .word) in
+    let space : eqb (codeOf w) spaceCode ≡ false = omega (arith, ne-eqb) in
+    let return : eqb (codeOf w) returnCode ≡ true = omega (arith, eq-eqb) in
+    simp (space, return)
 
 returns-4 : tie.Need-returns-4
 unfolding kindOf
-returns-4 c = simp (ne-eqb _ _ (c .match .rest .0 .1), ne-eqb _ _ (c .match .rest .1))
+returns-4 c =
+    let w = (let s : tie.Start = search in s .args .word) in
+    let space : eqb (codeOf w) spaceCode ≡ false = omega (arith, ne-eqb) in
+    let return : eqb (codeOf w) returnCode ≡ false = omega (arith, ne-eqb) in
+    simp (space, return)
 
 pub decode-spec : {M : Type 1} → statement M
 decode-spec =

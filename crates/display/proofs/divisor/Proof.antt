@@ -17,7 +17,8 @@ returns-3 c = (ap divisorOf (sym (c .match .keys3)), (omega arith, omega arith))
 
 returns-4 : tie.Need-returns-4
 returns-4 c =
-    let e : c .before .args .frequency ≡ 3 = omega (arith, c .match .rest .1, c .match .rest .0 .1, c .match .rest .0 .0 .1) in
+    let a = (let s : tie.Start = search in s .args) in
+    let e : a .frequency ≡ 3 = omega (arith, c .match .rest .1, c .match .rest .0 .1, c .match .rest .0 .0 .1) in
     (ap divisorOf (sym e), (omega arith, omega arith))
 
 pub divisor-spec : {M : Type 1} → statement M

@@ -12,12 +12,14 @@ add-result c = search needs
 
 returns : tie.Need-returns
 returns c =
-    let plain : c .before .args .mode ≤ 2 = omega arith in
+    let a = (let s : tie.Start = search in s .args) in
+    let plain : a .mode ≤ 2 = omega arith in
     simp (le-leb _ _ plain)
 
 returns-2 : tie.Need-returns-2
 returns-2 c =
-    let coloured : 2 < c .before .args .mode = omega arith in
+    let a = (let s : tie.Start = search in s .args) in
+    let coloured : 2 < a .mode = omega arith in
     simp (lt-leb _ _ coloured)
 
 pub outside-spec : {M : Type 1} → statement M

@@ -1,11 +1,9 @@
 -- `display::paint`: what `judged` answers decides; an accepted call's line stands in the part lent on.
 -- Assumes nothing.
-use mathlib.Core.Path.{sym}
+use mathlib.Core.Path.{_≡_}
+use mathlib.Core.Bool.{true, false}
 use borrow.Author.Needs.{needs}
-use lib.ListN.{length}
-use lib.Seq.{length-take-le}
-use Rattle.judging.proofs.Accepted.{accepted-done}
-use Rattle.display.proofs.Whole.{refused-leaves, shown, dark}
+use Rattle.display.proofs.Whole.{room-there, part-there, usable, refused-leaves, shown, dark}
 use Rattle.display.proofs.paint.Statement.{statement}
 use Rattle.display.proofs.paint.Tie as tie
 
@@ -16,22 +14,13 @@ enum-told : tie.Need-enum-told
 enum-told c = search needs
 
 slice-relend-prefix-dots : tie.Need-slice-relend-prefix-dots
-slice-relend-prefix-dots c =
-    let a = c .before .before .before .before .before .before .args in
-    let acc = accepted-done (a .words .now) (a .font .now) (a .settings) (a .line) (a .width) (length (a .out .now)) _ (c .before .before .judged .ensures) (c .enum-told .given .1) in
-    acc .fits
+slice-relend-prefix-dots c = search room-there
 
 slice-aggregate-dots : tie.Need-slice-aggregate-dots
-slice-aggregate-dots c =
-    let a = c .before .before .before .before .before .before .before .args in
-    let acc = accepted-done (a .words .now) (a .font .now) (a .settings) (a .line) (a .width) (length (a .out .now)) _ (c .before .before .before .judged .ensures) (c .before .enum-told .given .1) in
-    sym (length-take-le (a .width .0) (a .out .now) (acc .fits))
+slice-aggregate-dots c = search part-there
 
 paint-line-requires : tie.Need-paint-line-requires
-paint-line-requires c κs =
-    let a = c .before .before .before .before .before .before .before .before .args in
-    let acc = accepted-done (a .words .now) (a .font .now) (a .settings) (a .line) (a .width) (length (a .out .now)) _ (c .before .before .before .before .judged .ensures) (c .before .before .enum-told .given .1) in
-    (acc .words64, (acc .rows, record { colour = acc .colour; h = acc .h; v = acc .v; ratio = acc .ratio; frequency = acc .frequency }))
+paint-line-requires c κs = search usable
 
 fill-requires : tie.Need-fill-requires
 fill-requires c κs = search needs
@@ -41,28 +30,27 @@ same-length c = search needs
 
 returns : tie.Need-returns
 returns c =
-    let a = c .before .before .before .before .before .before .before .before .before .before .before .args in
-    let e = c .before .before .before .before .before .before .before .judged .ensures in
-    let done = c .before .before .before .before .before .enum-told .given .1 in
-    let acc = accepted-done (a .words .now) (a .font .now) (a .settings) (a .line) (a .width) (length (a .out .now)) _ e done in
-    (e, shown (a .words .now) (a .font .now) (a .settings) (a .frame) (a .line) (a .width) (a .out .now) _ e done (acc .fits) _ (c .before .before .before .if1 .taken) (c .before .before .paint-line .ensures))
+    let painted = (let p : tie.After-paint-line = search in p .paint-line .ensures) in
+    let done = (let e : tie.After-enum-told = search in e .enum-told .given .1) in
+    let said = (let j : tie.After-judged = search in j .judged .ensures) in
+    let a = (let s : tie.Start = search in s .args) in
+    let on : a .settings .on ≡ true = search in
+    (said, shown _ _ _ (a .frame) _ _ _ _ said done _ on painted)
 
 same-length-2 : tie.Need-same-length-2
 same-length-2 c = search needs
 
 returns-2 : tie.Need-returns-2
 returns-2 c =
-    let a = c .before .before .before .before .before .before .before .before .before .before .before .args in
-    let e = c .before .before .before .before .before .before .before .judged .ensures in
-    let done = c .before .before .before .before .before .enum-told .given .1 in
-    let acc = accepted-done (a .words .now) (a .font .now) (a .settings) (a .line) (a .width) (length (a .out .now)) _ e done in
-    (e, dark (a .words .now) (a .font .now) (a .settings) (a .frame) (a .line) (a .width) (a .out .now) _ e done (acc .fits) _ (c .before .before .before .if1 .left) (c .before .before .fill .ensures))
+    let filled = (let f : tie.After-fill = search in f .fill .ensures) in
+    let done = (let e : tie.After-enum-told = search in e .enum-told .given .1) in
+    let said = (let j : tie.After-judged = search in j .judged .ensures) in
+    let a = (let s : tie.Start = search in s .args) in
+    let off : a .settings .on ≡ false = search in
+    (said, dark _ _ _ (a .frame) _ _ _ _ said done _ off filled)
 
 returns-3 : tie.Need-returns-3
-returns-3 c =
-    let a = c .before .before .before .before .before .args in
-    let e = c .before .judged .ensures in
-    (e, refused-leaves (a .words .now) (a .font .now) (a .settings) (a .frame) (a .line) (a .width) (a .out .now) (c .before .judged .result) e (c .match .keys2))
+returns-3 c = (search, search refused-leaves)
 
 pub paint-spec : {M : Type 1} → statement M
 paint-spec =

@@ -1,9 +1,6 @@
 -- `display::paint_line`: a line of outside bytes, painted over by the cells in turn, is by `joined` the line of the account.
 -- Assumes nothing.
-use mathlib.Core.Path.{ap, _∙_}
-use Prim.Native.Nat.{ℕ}
 use native.Mathlib.Omega.{arith}
-use lib.ListN.{length, replicate}
 use Rattle.display.proofs.Whole.{on-line}
 use borrow.Author.Needs.{needs}
 use Rattle.display.proofs.paint_line.Statement.{statement}
@@ -35,18 +32,20 @@ fill-requires c κs = search needs
 
 row-step-requires : tie.Need-row-step-requires
 row-step-requires c κs =
-    let s = c .before .before .before .before .before .before .before .before .before .before .before .before .before in
-    (s .pre .1 .0, record { start = omega arith; right = omega arith; down = omega arith; some = omega arith; size = omega arith; colour = omega arith })
+    let pre = (let s : tie.Start = search in s .pre) in
+    record { rows = pre .rows; room = record { start = omega arith; right = omega arith; down = omega arith; some = omega arith; size = omega arith; colour = omega arith } }
 
 same-length : tie.Need-same-length
 same-length c = search needs
 
 returns : tie.Need-returns
 returns c =
-    let a = c .before .before .before .before .before .before .before .before .before .before .before .before .before .before .before .before .args in
-    let blink = c .before .before .before .before .before .before .before .before .before .before .before .before .blink-lit in
-    let filled = c .before .before .before .before .before .before .fill .ensures ∙ ap (λ (b : ℕ). replicate (length (a .out .now)) b) (c .before .before .before .before .before .before .before .outside .ensures) in
-    on-line (a .words .now) (a .font .now) (a .settings) (a .frame) (a .line) (blink .result) (length (a .out .now)) _ _ (blink .ensures) filled (c .before .before .row-step .ensures)
+    let walked = (let r : tie.After-row-step = search in r .row-step .ensures) in
+    let filled = (let f : tie.After-fill = search in f .fill .ensures) in
+    let other = (let o : tie.After-outside = search in o .outside .ensures) in
+    let blink = (let b : tie.After-blink-lit = search in b .blink-lit .ensures) in
+    let a = (let s : tie.Start = search in s .args) in
+    on-line _ _ (a .settings) (a .frame) _ _ _ _ _ _ blink other filled walked
 
 pub paint-line-spec : {M : Type 1} → statement M
 paint-line-spec =

@@ -12,9 +12,9 @@ decode-requires c κs = search needs
 
 returns : tie.Need-returns
 returns c =
-    let p = c .before .before .before .args .pen in
-    let told = c .before .before .decode .ensures in
-    (ap (λ (k : Kind). record { x = p .x; y = p .y; size = p .size; kind = k }) told, sound (c .before .before .before .args .word) _ told)
+    let told = (let d : tie.After-decode = search in d .decode .ensures) in
+    let a = (let s : tie.Start = search in s .args) in
+    (ap (λ (k : Kind). record { x = a .pen .x; y = a .pen .y; size = a .pen .size; kind = k }) told, sound (a .word) _ told)
 
 pub place-spec : {M : Type 1} → statement M
 place-spec = tie.close (tie.spec decode-requires returns)

@@ -1,15 +1,12 @@
 -- `display::shown_bits`: each return by whether the character is blinked out; the row is within the cell, so within the font.
 -- Assumes nothing.
-use borrow.Author.Tests.{not-true, not-false}
-use mathlib.Core.Logic.{⊎-elim}
+use mathlib.Core.Path.{_≡_}
+use mathlib.Core.Bool.{true, false}
 use native.Mathlib.Omega.{arith}
-use Rattle.laws.proofs.Placing.{share-below}
 use borrow.Author.Needs.{needs}
+use Rattle.display.proofs.Stretched.{row-within}
 use Rattle.display.proofs.shown_bits.Statement.{statement}
 use Rattle.display.proofs.shown_bits.Tie as tie
-
-returns : tie.Need-returns
-returns c = simp (c .before .before .if1 .taken, not-true (c .before .before .before .args .view .lit) (c .if2 .taken))
 
 mul-at : tie.Need-mul-at
 mul-at c = search needs
@@ -22,21 +19,40 @@ div-at c = search needs
 
 add-at : tie.Need-add-at
 add-at c =
-    let s = c .before .before in omega (arith, share-below 18 (s .args .size) (s .args .view .line .0) (s .args .y .0) (omega arith) (omega arith))
+    let cut = (let s : tie.Start = search in s .pre .cut) in
+    omega (arith, row-within _ _ _ cut)
 
-mul-result : tie.Need-mul-result
-mul-result c =
-    let s = c .before .before in omega (arith, share-below 18 (s .args .size) (s .args .view .line .0) (s .args .y .0) (omega arith) (omega arith))
+mul-bits : tie.Need-mul-bits
+mul-bits c =
+    let cut = (let s : tie.Start = search in s .pre .cut) in
+    omega (arith, row-within _ _ _ cut)
 
-shared-slice-read-result : tie.Need-shared-slice-read-result
-shared-slice-read-result c =
-    let s = c .before .before .before in omega (arith, share-below 18 (s .args .size) (s .args .view .line .0) (s .args .y .0) (omega arith) (omega arith))
+shared-slice-read-bits : tie.Need-shared-slice-read-bits
+shared-slice-read-bits c =
+    let cut = (let s : tie.Start = search in s .pre .cut) in
+    omega (arith, row-within _ _ _ cut)
+
+returns : tie.Need-returns
+returns c =
+    let a = (let s : tie.Start = search in s .args) in
+    let blinks : a .blink ≡ true = search in
+    let lit : a .view .lit ≡ true = search in
+    simp (blinks, lit)
 
 returns-2 : tie.Need-returns-2
 returns-2 c =
-    ⊎-elim (λ w. simp (w .0 .taken, not-false (c .before .before .before .args .view .lit) (w .2 .left))) (λ w. simp (w .left)) (c .before .before .if1 .came)
+    let a = (let s : tie.Start = search in s .args) in
+    let blinks : a .blink ≡ true = search in
+    let out : a .view .lit ≡ false = search in
+    simp (blinks, out)
+
+returns-3 : tie.Need-returns-3
+returns-3 c =
+    let a = (let s : tie.Start = search in s .args) in
+    let steady : a .blink ≡ false = search in
+    simp steady
 
 pub shown-bits-spec : {M : Type 1} → statement M
 shown-bits-spec =
     tie.close
-    (tie.spec returns mul-at sub-at div-at add-at mul-result shared-slice-read-result returns-2)
+    (tie.spec mul-at sub-at div-at add-at mul-bits shared-slice-read-bits returns returns-2 returns-3)
