@@ -54,10 +54,6 @@ module _ (text room : List ℕ) (long : 8192 ≤ length room) (short : length te
     unfolding leftOf
     keeps e = rw (ne-eqb _ 0 (λ z. e (number ∙ z)))
 
--- the first case is acceptance
-pub done-says : {x : Outcome} {n : ℕ} → x ≡ Done n → said x .number ≡ 0
-done-says e = ap (λ y. said y .number) e
-
 -- an outcome that is not the first case is a refusal
 pub not-done : (x : Outcome) → OneOf (1 ∷ 2 ∷ 3 ∷ 4 ∷ 5 ∷ 6 ∷ 7 ∷ []) (tagOf outcome.the-type x) → said x .number ≡ 0 → ⊥
 not-done (Done n) k e = miss (1 ∷ 2 ∷ 3 ∷ 4 ∷ 5 ∷ 6 ∷ 7 ∷ []) 0 tt k

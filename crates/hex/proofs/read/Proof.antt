@@ -1,15 +1,15 @@
 -- `hex::read` meets its contract: the tests of the two lengths, then the verdict that `collect` gives; the room is written only where that is acceptance.
 -- Assumes nothing.
-use Rattle.hex.proofs.Outcomes.{answers, leaves, keeps, done-says, not-done}
+use Rattle.hex.proofs.Outcomes.{answers, leaves, keeps, not-done}
 use Rattle.hex.specs.Steps.{unfilled}
-use Rattle.hex.specs.Reading.{mostText, answerOf, leftOf}
+use Rattle.hex.specs.Reading.{mostText, answerOf, leftOf, said}
 use Rattle.image.specs.Image.{imageBytes}
 use native.Mathlib.Omega.{arith}
 use borrow.Author.Tests.{lt-ltb, le-ltb}
 use lib.Dec.{ltb}
 use lib.ListN.{length}
 use mathlib.Core.Bool.{true, false}
-use mathlib.Core.Path.{_≡_, refl, _∙_}
+use mathlib.Core.Path.{_≡_, refl, _∙_, ap}
 use Prim.Native.Nat.{_≤_}
 use borrow.Author.Needs.{needs}
 use Rattle.hex.proofs.read.Statement.{statement}
@@ -62,8 +62,9 @@ returns-3 c =
     let short : length (a .text .now) ≤ mostText = omega arith in
     let called = (let k : tie.After-collect = search in k .collect) in
     let told = (let t : tie.After-enum-told = search in t .enum-told .given .1) in
+    let accepts : said (called .result) .number ≡ 0 = omega (arith, ap (λ x. said x .number) told) in
     let copied = (let k : tie.After-copy-out = search in k .copy-out .ensures) in
-    (called .ensures .says ∙ answers (a .text .now) (a .image .now) long short, copied ∙ leaves (a .text .now) (a .image .now) long short (called .ensures) (done-says told))
+    (called .ensures .says ∙ answers (a .text .now) (a .image .now) long short, copied ∙ leaves (a .text .now) (a .image .now) long short (called .ensures) accepts)
 
 returns-4 : tie.Need-returns-4
 returns-4 c =
