@@ -2,12 +2,15 @@
 -- parsed, and the record's bytes in the room for one record. Each is the verdict, or the next turn's start.
 -- Assumes nothing.
 use mathlib.Core.Path.{_≡_, sym, _∙_, ap}
-use mathlib.Core.Bool.{true, false}
+use mathlib.Core.Bool.{Bool, true, false}
 use mathlib.Core.List.{List, [], _∷_, _++_}
 use Prim.Native.Nat.{ℕ, _+_, _*_, _<_, _≤_}
 use native.Mathlib.Omega.{arith}
 use native.Mathlib.Numerals.{add-one}
-use lib.Dec.{eqb, ltb}
+use mir.Syntax.{w8}
+use borrow.Table.Referent.{fInt}
+use borrow.Rule.Slice.Know.{Fit}
+use lib.Dec.{ltb}
 use lib.ListN.{length, getD, take, drop}
 use lib.Seq.{take-all, take-suc}
 use borrow.Author.Tests.{eqb-true, eqb-false, le-leb, le-ltb}
@@ -15,26 +18,52 @@ use Rattle.laws.specs.Pick.{pick}
 use Rattle.laws.specs.Said.{accepted, refused}
 use Rattle.laws.specs.Lists.{tabulate, firstOf}
 use Rattle.laws.proofs.Lists.{first-most, tabulate-same}
+use Rattle.laws.proofs.Said.{said-by}
 use Rattle.hex.specs.Lines.{bodyOf}
 use Rattle.hex.specs.Records.{records, isShaped, lengthOf, addressOf, typeOf, sumOf, isEnd, freshIn, faultOf, byteIn, gives, dataAt}
-use Rattle.hex.specs.Reading.{verdict}
-use Rattle.hex.specs.Steps.{recordAt, nextAt, lineAt, storedAt}
-use Rattle.hex.specs.declared.Line.the-variants.{Shaped}
-use Rattle.hex.proofs.Faults.{is-end, other-type, long-end, far-end, fault-sum, fault-type, fault-end, fault-past, fault-twice, fault-none}
+use Rattle.hex.specs.Reading.{said, verdict}
+use Rattle.hex.specs.Steps.{Collected, Parsed, Stored, recordAt, nextAt, lineAt}
+use Rattle.hex.specs.declared.Line.{Line}
+use Rattle.hex.specs.declared.Line.the-variants.{Shaped, Unshaped}
+use Rattle.hex.specs.declared.Outcome.{Outcome}
+use Rattle.hex.proofs.Faults.{fault-shape, is-end, other-type, long-end, far-end, fault-sum, fault-type, fault-end, fault-past, fault-twice, fault-none}
 use Rattle.hex.proofs.Given.{front-at, in-append, in-one}
-use Rattle.hex.proofs.Passed.{Passed, line-shaped, k-below, record-here, whole-here, next-fits, is-last, not-last, verdict-fault, verdict-more, verdict-done, fresh-here, passed-more}
+use Rattle.hex.proofs.Passed.{Passed, line-shaped, line-unshaped, verdict-over, k-below, record-here, whole-here, next-fits, is-last, not-last, verdict-fault, verdict-more, verdict-done, fresh-here, passed-more}
 
 -- the line at this place, parsed; its record's bytes stand in the room for one record
-pub record Met (text : List ℕ) (at count : ℕ) (scratch : List ℕ) : Type 0 where
-  pub bytes : List ℕ
-  pub sum : ℕ
-  pub next : ℕ
+pub record Met (text : List ℕ) (at count : ℕ) (scratch bytes : List ℕ) (sum next : ℕ) : Type 0 where
   pub before : Passed text at count scratch
   pub more : at < length text
   pub line : Shaped sum next ≡ lineAt text at
   pub front : take (length (recordAt text at)) bytes ≡ recordAt text at
 
-module _ {text : List ℕ} {at count : ℕ} {scratch : List ℕ} (met : Met text at count scratch) where
+-- a turn of the reader's loop
+pub record Turn (text bytes₀ scratch₀ bytes scratch : List ℕ) (at count : ℕ) : Type 0 where
+  pub passed : Passed text at count scratch
+  pub room : length bytes ≡ length bytes₀
+  pub whole : length scratch ≡ length scratch₀
+
+pub bytes-fit : {text : List ℕ} {at : ℕ} {bytes : List ℕ} {r : Line} → Parsed text at bytes r → Fit (fInt w8) 0 bytes → Fit (fInt w8) 0 bytes
+bytes-fit parsed fit = fit
+
+-- a refusal is an answer by its number and place
+pub refused-by : {text scratch : List ℕ} {x : Outcome} {number place : ℕ} → refused number place ≡ verdict text → said x .number ≡ number → said x .place ≡ place
+    → said x .value ≡ 0 → 0 < number → Collected text scratch x
+refused-by is number place value some = record { says = said-by is number place value; held = λ e. absurd (omega arith) }
+
+module _ {text : List ℕ} {at count : ℕ} {scratch : List ℕ} (before : Passed text at count scratch) where
+  pub over : length text ≤ at → refused 12 at ≡ verdict text
+  over h = sym (verdict-over text at count scratch before h)
+
+  module _ (more : at < length text) {bytes : List ℕ} {r : Line} (parsed : Parsed text at bytes r) where
+    pub meets : {sum next : ℕ} → r ≡ Shaped sum next → Met text at count scratch bytes sum next
+    meets told = record { before = before; more = more; line = sym told ∙ parsed .line; front = parsed .front }
+
+    pub meets-none : r ≡ Unshaped → refused 7 at ≡ verdict text
+    meets-none told =
+        sym (verdict-fault text at count scratch before more 7 (omega arith) (fault-shape _ _ (line-unshaped text at (sym told ∙ parsed .line))))
+
+module _ {text : List ℕ} {at count : ℕ} {scratch bytes : List ℕ} {sum next : ℕ} (met : Met text at count scratch bytes sum next) where
   abbrev before : Passed text at count scratch
   before = met .before
 
@@ -42,10 +71,10 @@ module _ {text : List ℕ} {at count : ℕ} {scratch : List ℕ} (met : Met text
   more = met .more
 
   shaped : isShaped (bodyOf (drop at text)) ≡ true
-  shaped = line-shaped text at (met .sum) (met .next) (met .line) .0
+  shaped = line-shaped text at sum next (met .line) .0
 
-  next-is : met .next ≡ nextAt text at
-  next-is = line-shaped text at (met .sum) (met .next) (met .line) .2
+  next-is : next ≡ nextAt text at
+  next-is = line-shaped text at sum next (met .line) .2
 
   whole : length (recordAt text at) ≡ 5 + lengthOf (recordAt text at)
   whole = whole-here text at count scratch before more shaped
@@ -53,62 +82,62 @@ module _ {text : List ℕ} {at count : ℕ} {scratch : List ℕ} (met : Met text
   some : 0 < length (recordAt text at)
   some = omega (arith, whole)
 
-  byte : (i : ℕ) → i < 5 → getD (met .bytes) i 0 ≡ getD (recordAt text at) i 0
-  byte i h = front-at (recordAt text at) (met .bytes) (met .front) i (omega (arith, whole))
+  byte : (i : ℕ) → i < 5 → getD bytes i 0 ≡ getD (recordAt text at) i 0
+  byte i h = front-at (recordAt text at) bytes (met .front) i (omega (arith, whole))
 
-  address-is : 256 * getD (met .bytes) 1 0 + getD (met .bytes) 2 0 ≡ addressOf (recordAt text at)
+  address-is : 256 * getD bytes 1 0 + getD bytes 2 0 ≡ addressOf (recordAt text at)
   address-is = omega (arith, byte 1 (omega arith), byte 2 (omega arith))
 
   fault-is : (f : ℕ) → 0 < f → faultOf (take (before .k) (records text)) (recordAt text at) ≡ f → refused f at ≡ verdict text
   fault-is f h e = sym (verdict-fault text at count scratch before more f h e)
 
-  pub met-next : (met .next ≤ length text) × (at + 11 + 2 * getD (met .bytes) 0 0 ≤ met .next)
+  pub met-next : (next ≤ length text) × (at + 11 + 2 * getD bytes 0 0 ≤ next)
   met-next =
       let fits = next-fits text at count scratch before more shaped in
       (omega (arith, fits .0, next-is), omega (arith, fits .1, next-is, byte 0 (omega arith)))
 
-  pub met-sum : (met .sum ≡ 0 → ⊥) → refused 8 at ≡ verdict text
-  met-sum h = fault-is 8 (omega arith) (fault-sum _ _ some (λ e. h (line-shaped text at (met .sum) (met .next) (met .line) .1 ∙ e)))
+  pub met-sum : (sum ≡ 0 → ⊥) → refused 8 at ≡ verdict text
+  met-sum h = fault-is 8 (omega arith) (fault-sum _ _ some (λ e. h (line-shaped text at sum next (met .line) .1 ∙ e)))
 
-  module _ (zero-sum : met .sum ≡ 0) where
+  module _ (zero-sum : sum ≡ 0) where
     summed : sumOf (recordAt text at) ≡ 0
-    summed = sym (line-shaped text at (met .sum) (met .next) (met .line) .1) ∙ zero-sum
+    summed = sym (line-shaped text at sum next (met .line) .1) ∙ zero-sum
 
     -- the end record's type
-    module _ (kind : getD (met .bytes) 3 0 ≡ 1) where
+    module _ (kind : getD bytes 3 0 ≡ 1) where
       typed : typeOf (recordAt text at) ≡ 1
       typed = sym (byte 3 (omega arith)) ∙ kind
 
       not-zero : typeOf (recordAt text at) ≡ 0 → ⊥
       not-zero e = omega (arith, typed)
 
-      pub met-long-end : (getD (met .bytes) 0 0 ≡ 0 → ⊥) → refused 9 at ≡ verdict text
+      pub met-long-end : (getD bytes 0 0 ≡ 0 → ⊥) → refused 9 at ≡ verdict text
       met-long-end h = fault-is 9 (omega arith) (fault-type _ _ some summed (long-end _ typed (λ e. h (byte 0 (omega arith) ∙ e))) not-zero)
 
-      module _ (no-data : getD (met .bytes) 0 0 ≡ 0) where
+      module _ (no-data : getD bytes 0 0 ≡ 0) where
         empty : lengthOf (recordAt text at) ≡ 0
         empty = sym (byte 0 (omega arith)) ∙ no-data
 
-        pub met-far-end : (256 * getD (met .bytes) 1 0 + getD (met .bytes) 2 0 ≡ 0 → ⊥) → refused 9 at ≡ verdict text
+        pub met-far-end : (256 * getD bytes 1 0 + getD bytes 2 0 ≡ 0 → ⊥) → refused 9 at ≡ verdict text
         met-far-end h = fault-is 9 (omega arith) (fault-type _ _ some summed (far-end _ typed empty (λ e. h (address-is ∙ e))) not-zero)
 
-        module _ (at-zero : 256 * getD (met .bytes) 1 0 + getD (met .bytes) 2 0 ≡ 0) where
+        module _ (at-zero : 256 * getD bytes 1 0 + getD bytes 2 0 ≡ 0) where
           ended : isEnd (recordAt text at) ≡ true
           ended = is-end _ typed empty (sym address-is ∙ at-zero)
 
           good : faultOf (take (before .k) (records text)) (recordAt text at) ≡ 0
           good = fault-end _ _ some summed ended
 
-          pub met-more : met .next < length text → refused 12 (met .next) ≡ verdict text
+          pub met-more : next < length text → refused 12 next ≡ verdict text
           met-more h =
               rw next-is
               (sym (verdict-more text at count scratch before more good ended (not-last text at count scratch before more shaped (rw next-is at h))))
 
-          pub met-done : length text ≤ met .next → accepted count ≡ verdict text
+          pub met-done : length text ≤ next → accepted count ≡ verdict text
           met-done h = sym (verdict-done text at count scratch before more good ended (is-last text at count scratch before more shaped (rw next-is at h)) empty)
 
           -- the end record gives no byte, so the scratch holds all that the records give
-          pub met-all : length text ≤ met .next → scratch ≡ tabulate 8192 (byteIn 256 (records text))
+          pub met-all : length text ≤ next → scratch ≡ tabulate 8192 (byteIn 256 (records text))
           unfolding gives
           met-all h =
               let last = is-last text at count scratch before more shaped (rw next-is at h) in
@@ -128,46 +157,46 @@ module _ {text : List ℕ} {at count : ℕ} {scratch : List ℕ} (met : Met text
                   simp (le-leb (addressOf (recordAt text at)) a (omega arith), le-ltb a (addressOf (recordAt text at) + lengthOf (recordAt text at)) (omega (arith, empty)))
 
     -- another type
-    module _ (kind : getD (met .bytes) 3 0 ≡ 1 → ⊥) where
+    module _ (kind : getD bytes 3 0 ≡ 1 → ⊥) where
       no-end : isEnd (recordAt text at) ≡ false
       no-end = other-type _ (λ e. kind (byte 3 (omega arith) ∙ e))
 
-      pub met-type : (getD (met .bytes) 3 0 ≡ 0 → ⊥) → refused 9 at ≡ verdict text
+      pub met-type : (getD bytes 3 0 ≡ 0 → ⊥) → refused 9 at ≡ verdict text
       met-type h = fault-is 9 (omega arith) (fault-type _ _ some summed no-end (λ e. h (byte 3 (omega arith) ∙ e)))
 
-      module _ (plain : getD (met .bytes) 3 0 ≡ 0) where
+      module _ (plain : getD bytes 3 0 ≡ 0) where
         typed-data : typeOf (recordAt text at) ≡ 0
         typed-data = sym (byte 3 (omega arith)) ∙ plain
 
-        pub met-past : 8192 < 256 * getD (met .bytes) 1 0 + getD (met .bytes) 2 0 + getD (met .bytes) 0 0 → refused 10 at ≡ verdict text
+        pub met-past : 8192 < 256 * getD bytes 1 0 + getD bytes 2 0 + getD bytes 0 0 → refused 10 at ≡ verdict text
         met-past h = fault-is 10 (omega arith) (fault-past _ _ some summed no-end typed-data (omega (arith, byte 0 (omega arith), address-is)))
 
-        module _ (fits : 256 * getD (met .bytes) 1 0 + getD (met .bytes) 2 0 + getD (met .bytes) 0 0 ≤ 8192) where
+        module _ (fits : 256 * getD bytes 1 0 + getD bytes 2 0 + getD bytes 0 0 ≤ 8192) {after : List ℕ} {fresh : Bool}
+            (stored : Stored bytes (getD bytes 0 0) (256 * getD bytes 1 0 + getD bytes 2 0) scratch after fresh) where
           ends-within : addressOf (recordAt text at) + lengthOf (recordAt text at) ≤ 8192
           ends-within = omega (arith, byte 0 (omega arith), address-is)
 
           found : ℕ
-          found = firstOf (getD (met .bytes) 0 0) (λ i. ltb (getD scratch (256 * getD (met .bytes) 1 0 + getD (met .bytes) 2 0 + i) 0) 256)
+          found = firstOf (getD bytes 0 0) (λ i. ltb (getD scratch (256 * getD bytes 1 0 + getD bytes 2 0 + i) 0) 256)
 
           found-is : found ≡ freshIn (take (before .k) (records text)) (recordAt text at)
           unfolding found
-          found-is = fresh-here text at count scratch before more shaped (met .bytes) (met .front) _ _ (byte 0 (omega arith)) address-is fits
+          found-is = fresh-here text at count scratch before more shaped bytes (met .front) _ _ (byte 0 (omega arith)) address-is fits
 
-          pub met-twice : false ≡ eqb (firstOf (getD (met .bytes) 0 0) (λ i. ltb (getD scratch (256 * getD (met .bytes) 1 0 + getD (met .bytes) 2 0 + i) 0) 256)) (getD (met .bytes) 0 0) → refused 11 at ≡ verdict text
+          pub met-twice : fresh ≡ false → refused 11 at ≡ verdict text
           unfolding found
           met-twice e =
-              let other = eqb-false found (getD (met .bytes) 0 0) (sym e) in
-              let most = first-most (getD (met .bytes) 0 0) (λ i. ltb (getD scratch (256 * getD (met .bytes) 1 0 + getD (met .bytes) 2 0 + i) 0) 256) in
+              let other = eqb-false found (getD bytes 0 0) (sym (stored .tells) ∙ e) in
+              let most = first-most (getD bytes 0 0) (λ i. ltb (getD scratch (256 * getD bytes 1 0 + getD bytes 2 0 + i) 0) 256) in
               fault-is 11 (omega arith)
               (fault-twice _ _ some summed no-end typed-data ends-within
               (rw (← found-is, ← byte 0 (omega arith)) (omega arith)))
 
-          pub met-passed : true ≡ eqb (firstOf (getD (met .bytes) 0 0) (λ i. ltb (getD scratch (256 * getD (met .bytes) 1 0 + getD (met .bytes) 2 0 + i) 0) 256)) (getD (met .bytes) 0 0)
-              → Passed text (met .next) (count + getD (met .bytes) 0 0) (tabulate 8192 (storedAt (met .bytes) (256 * getD (met .bytes) 1 0 + getD (met .bytes) 2 0) (getD (met .bytes) 0 0) scratch))
+          pub met-passed : fresh ≡ true → Passed text next (count + getD bytes 0 0) after
           unfolding found
           met-passed e =
               let all : lengthOf (recordAt text at) ≤ freshIn (take (before .k) (records text)) (recordAt text at) =
-              omega (arith, eqb-true found (getD (met .bytes) 0 0) (sym e), found-is, byte 0 (omega arith)) in
-              rw next-is
-              (passed-more text at count scratch before more shaped (met .bytes) (met .front) _ _ (byte 0 (omega arith)) address-is fits no-end
+              omega (arith, eqb-true found (getD bytes 0 0) (sym (stored .tells) ∙ e), found-is, byte 0 (omega arith)) in
+              rw (stored .stored e, next-is)
+              (passed-more text at count scratch before more shaped bytes (met .front) _ _ (byte 0 (omega arith)) address-is fits no-end
               (fault-none _ _ some summed no-end typed-data ends-within all) all)

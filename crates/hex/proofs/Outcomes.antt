@@ -16,7 +16,7 @@ use Rattle.laws.proofs.Said.{number-of}
 use Rattle.hex.specs.Lines.{lines}
 use Rattle.hex.specs.Records.{records, recordOf, byteIn, gives, dataAt}
 use Rattle.hex.specs.Reading.{answerOf, leftOf, said, verdict}
-use Rattle.hex.specs.Steps.{byteOf}
+use Rattle.hex.specs.Steps.{Collected, byteOf}
 use Rattle.hex.specs.declared.Outcome.{Outcome}
 use Rattle.hex.proofs.Outcome as outcome
 use Rattle.hex.specs.declared.Outcome.the-variants.{Done, NoRoom, BadShape, BadSum, BadType, PastEnd, GivenTwice, BadEnd}
@@ -38,18 +38,17 @@ module _ (text room : List ℕ) (long : 8192 ≤ length room) (short : length te
   unfolding answerOf
   answers = simp (le-ltb _ _ long, le-ltb _ _ short)
 
-  module _ (x : Outcome) (is : said x ≡ verdict text) where
+  module _ {scratch : List ℕ} {x : Outcome} (collected : Collected text scratch x) where
     number : said x .number ≡ answerOf text (length room) .number
-    number = number-of (is ∙ answers)
+    number = number-of (collected .says ∙ answers)
 
-    pub leaves : said x .number ≡ 0 → (scratch : List ℕ) → scratch ≡ tabulate 8192 (byteIn 256 (records text))
-        → tabulate 8192 (λ i. byteOf (getD scratch i 0)) ++ drop 8192 room ≡ leftOf text room
+    pub leaves : said x .number ≡ 0 → tabulate 8192 (λ i. byteOf (getD scratch i 0)) ++ drop 8192 room ≡ leftOf text room
     unfolding leftOf
-    leaves e scratch held =
+    leaves e =
         rw (eq-eqb _ 0 (sym number ∙ e))
         (ap (λ (l : List ℕ). l ++ drop 8192 room)
         (tabulate-same 8192 _ (byteIn 255 (records text)) (λ a h.
-        ap byteOf (ap (λ (l : List ℕ). getD l a 0) held ∙ getD-tabulate 8192 (byteIn 256 (records text)) a 0 h) ∙ scratch-byte (lines text) a)))
+        ap byteOf (ap (λ (l : List ℕ). getD l a 0) (collected .held e) ∙ getD-tabulate 8192 (byteIn 256 (records text)) a 0 h) ∙ scratch-byte (lines text) a)))
 
     pub keeps : (said x .number ≡ 0 → ⊥) → room ≡ leftOf text room
     unfolding leftOf

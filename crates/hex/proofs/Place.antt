@@ -1,27 +1,28 @@
 -- What the reader's tests at a place of the text say of the line that starts there: they are the record's shape in the text's own places.
 -- Assumes nothing.
 use mathlib.Core.Path.{_≡_, sym, _∙_, ap}
+use mathlib.Core.Bool.{true}
 use mathlib.Core.List.{List, _∷_}
 use Prim.Native.Nat.{ℕ, _+_, _-_, _*_, _<_, _≤_}
 use native.Mathlib.Omega.{arith}
 use lib.ListN.{length, getD, take, drop, length-drop}
 use lib.Seq.{drop-drop, length-take-le}
 use Rattle.laws.proofs.Lists.{length-tabulate}
-use Rattle.hex.specs.Digits.{bytesFrom}
-use Rattle.hex.specs.Lines.{lines}
+use Rattle.hex.specs.Digits.{digit, bytesFrom}
+use Rattle.hex.specs.Lines.{lines, atEnd}
 use Rattle.hex.specs.Records.{spelledBy, sumOf}
-use Rattle.hex.specs.Steps.{sumFrom, pastEnd, endLength, recordAt, nextAt, lineAt}
+use Rattle.hex.specs.Steps.{Parsed, Decoded, pastEnd, endLength, recordAt, nextAt, lineAt}
 use Rattle.hex.specs.declared.Line.the-variants.{Shaped, Unshaped}
 use Rattle.hex.proofs.Lines.{first-cut, end-fits}
 use Rattle.hex.proofs.Steps.{sum-good, sum-digits, past-some, past-ends}
 use Rattle.hex.proofs.Shape.{sizeAt, Shape, bodySize, body-fits, body-plain, body-after, body-ends, shape-is, shape-spells, unshaped}
 
-module _ (text : List ℕ) (place : ℕ) (here : place < length text) where
-  -- a line that fails a test
-  pub not-shaped : (bytes : List ℕ) → (Shape text place → ⊥) → (Unshaped ≡ lineAt text place) × (take (length (recordAt text place)) bytes ≡ recordAt text place)
-  unfolding lineAt recordAt spelledBy
-  not-shaped bytes none = let e = unshaped text place none in (simp e, simp e)
+-- a line that fails a test
+pub not-shaped : (text : List ℕ) (place : ℕ) (bytes : List ℕ) → (Shape text place → ⊥) → Parsed text place bytes Unshaped
+unfolding lineAt recordAt spelledBy
+not-shaped text place bytes none = let e = unshaped text place none in record { line = simp e; front = simp e }
 
+module _ (text : List ℕ) (place : ℕ) (here : place < length text) where
   -- a line that passes all
   module _ (shape : Shape text place) where
     pub record-here : recordAt text place ≡ bytesFrom text (place + 1) (sizeAt text place)
@@ -58,35 +59,43 @@ module _ (text : List ℕ) (place : ℕ) (here : place < length text) where
     unfolding line-size
     next-here = omega (arith, next-is, ap endLength (body-after text place shape))
 
-  -- the tests as the reader makes them, with n for the number of bytes asked for
-  module _ (n : ℕ) (asked : n ≡ sizeAt text place) (reaches : place + 1 + 2 * n ≤ length text) where
-    pub no-sum : 255 < sumFrom text (place + 1) n → Shape text place → ⊥
-    no-sum h shape = omega (arith, sum-good text (place + 1) n reaches (λ k g. shape .digits k (omega arith)))
+-- the reader's tests: n bytes are asked for, and decoded; where they end, and where the line after them starts
+module _ {text : List ℕ} {place n : ℕ} {bytes : List ℕ} {sum : ℕ} (decoded : Decoded text (place + 1) n bytes sum) (asked : n ≡ sizeAt text place)
+    (reaches : place + 1 + 2 * n ≤ length text) where
+  pub no-sum : 255 < sum → Shape text place → ⊥
+  no-sum h shape = omega (arith, decoded .summed, sum-good text (place + 1) n reaches (λ k g. shape .digits k (omega arith)))
 
-    pub no-end : pastEnd text (place + 1 + 2 * n) ≡ 0 → Shape text place → ⊥
-    no-end h shape = omega (arith, past-some text (place + 1 + 2 * n) (rw asked (shape .ends)))
+  module _ (end next : ℕ) (ended : next ≡ pastEnd text end) (whole : end ≡ place + 1 + 2 * n) where
+    pub no-end : next ≡ 0 → Shape text place → ⊥
+    no-end h shape =
+        let e : place + 1 + 2 * sizeAt text place ≡ end = omega arith in
+        omega (arith, past-some text end (rw (← e) (shape .ends)))
 
-    module _ (begins : getD text place 0 ≡ 58) (summed : sumFrom text (place + 1) n < 256) (ended : pastEnd text (place + 1 + 2 * n) ≡ 0 → ⊥) where
+    module _ (here : place < length text) (begins : getD text place 0 ≡ 58) (summed : sum < 256) (some : next ≡ 0 → ⊥) where
+      digits-here : (k : ℕ) → k < 2 * n → digit (getD text (place + 1 + k) 0) < 16
+      digits-here = sum-digits text (place + 1) n reaches (omega (arith, decoded .summed))
+
+      end-is : end ≡ place + 1 + 2 * sizeAt text place
+      end-is = omega arith
+
+      ends-here : atEnd (drop end text) ≡ true
+      ends-here = past-ends text end (λ e. some (ended ∙ e))
+
       shape-found : Shape text place
       shape-found =
           record {
             begins = begins;
-            digits = λ k h. sum-digits text (place + 1) n reaches summed k (omega arith);
+            digits = λ k h. digits-here k (omega arith);
             reaches = omega arith;
-            ends = rw (← asked) (past-ends text (place + 1 + 2 * n) ended);
+            ends = rw (← end-is) ends-here;
           }
 
-      pub is-shaped : (bytes : List ℕ) → take n bytes ≡ bytesFrom text (place + 1) n
-          → (Shaped (sumFrom text (place + 1) n) (pastEnd text (place + 1 + 2 * n)) ≡ lineAt text place)
-          × (take (length (recordAt text place)) bytes ≡ recordAt text place)
+      pub is-shaped : Parsed text place bytes (Shaped sum next)
       unfolding lineAt
-      is-shaped bytes e =
-          let shape = shape-found in
-          let rec : recordAt text place ≡ bytesFrom text (place + 1) n = record-here shape ∙ ap (bytesFrom text (place + 1)) (sym asked) in
-          let sum : sumFrom text (place + 1) n ≡ sumOf (recordAt text place) =
-          sum-good text (place + 1) n reaches (sum-digits text (place + 1) n reaches summed) ∙ ap sumOf (sym rec) in
-          let next : pastEnd text (place + 1 + 2 * n) ≡ nextAt text place =
-          past-some text (place + 1 + 2 * n) (past-ends text (place + 1 + 2 * n) ended)
-          ∙ ap (λ m. place + 1 + 2 * m + endLength (drop (place + 1 + 2 * m) text)) asked ∙ sym (next-here shape) in
+      is-shaped =
+          let rec : recordAt text place ≡ bytesFrom text (place + 1) n = record-here text place here shape-found ∙ ap (bytesFrom text (place + 1)) (sym asked) in
+          let sums : sum ≡ sumOf (recordAt text place) = decoded .summed ∙ sum-good text (place + 1) n reaches digits-here ∙ ap sumOf (sym rec) in
+          let after : next ≡ nextAt text place =
+          ended ∙ past-some text end ends-here ∙ ap (λ m. m + endLength (drop m text)) end-is ∙ sym (next-here text place here shape-found) in
           let size : length (recordAt text place) ≡ n = ap length rec ∙ length-tabulate n _ in
-          (rw (shape-is text place shape, sum, next), rw size (e ∙ sym rec))
+          record { line = rw (shape-is text place shape-found, sums, after); front = rw size (decoded .front summed ∙ sym rec) }

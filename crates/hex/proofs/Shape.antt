@@ -4,7 +4,7 @@
 use mathlib.Core.Path.{_≡_, refl, sym, _∙_, ap}
 use mathlib.Core.Bool.{Bool, true, false}
 use mathlib.Core.List.{List, [], _∷_}
-use Prim.Native.Nat.{ℕ, zero, suc, _+_, _*_, _<_, _≤_}
+use Prim.Native.Nat.{ℕ, zero, suc, _+_, _-_, _*_, _<_, _≤_}
 use native.Mathlib.Nat.{le-of-suc-le-suc, not-suc-le-zero, add-zero}
 use native.Mathlib.Omega.{arith}
 use lib.Dec.{eqb, ltb}
@@ -73,6 +73,11 @@ module _ (text : List ℕ) (place : ℕ) where
   bodySize = 1 + 2 * sizeAt text place
 
   module _ (shape : Shape text place) where
+    pub digit-here : (q : ℕ) → place < q → q ≤ place + 2 * sizeAt text place → digit (getD text q 0) < 16
+    digit-here q l h =
+        let e : place + 1 + (q - (place + 1)) ≡ q = omega arith in
+        rw (← e) (shape .digits (q - (place + 1)) (omega arith))
+
     pub body-fits : bodySize ≤ length (drop place text)
     body-fits = omega (arith, shape .reaches, length-drop place text)
 

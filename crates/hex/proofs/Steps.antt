@@ -3,30 +3,38 @@
 use mathlib.Core.Path.{_≡_, refl, sym, _∙_, ap}
 use mathlib.Core.Bool.{Bool, true, false, false≢true}
 use mathlib.Core.List.{List}
-use Prim.Native.Nat.{ℕ, suc, _+_, _*_, _%_, _<_, _≤_}
+use Prim.Native.Nat.{ℕ, suc, _+_, _-_, _*_, _%_, _<_, _≤_}
 use native.Mathlib.Nat.{mod-add-mod, add-zero}
 use native.Mathlib.Decide.{ℕ-discrete, decLt}
 use native.Mathlib.Omega.{arith}
-use lib.Dec.{eqb}
-use lib.ListN.{length, getD, set, take, drop, length-drop, drop-of-length-le}
-use lib.Seq.{drop-cons, getD-drop, getD-take, length-take-le, getD-set-same, getD-set-other}
+use mir.Syntax.{w8}
+use borrow.Table.Referent.{fInt}
+use borrow.Rule.Slice.Know.{Fit}
+use lib.Dec.{eqb, ltb}
+use lib.ListN.{length, getD, set, take, drop, length-drop, length-set, drop-of-length-le}
+use lib.Seq.{drop-cons, getD-drop, getD-take, take-at, length-take-le, getD-set-same, getD-set-other}
 use borrow.Author.Count.{below-more}
 use borrow.Author.Tests.{eq-eqb, ne-eqb}
 use Rattle.laws.specs.Pick.{pick, both}
 use Rattle.laws.specs.Lists.{tabulate, firstOf}
 use Rattle.laws.specs.Placing.{patched}
 use Rattle.laws.specs.Sums.{sumAll}
-use Rattle.laws.proofs.Lists.{getD-tabulate, first-none, first-before}
+use Rattle.laws.proofs.Lists.{getD-tabulate, length-tabulate, Filled, filled-none, filled-more, filled-all, is-tabulate, first-none, first-before}
 use Rattle.laws.proofs.Patched.{patched-none, patched-here, patched-other, patched-out}
 use Rattle.laws.proofs.Sums.{sum-tabulate}
-use Rattle.hex.specs.Digits.{digit, bytesFrom}
+use Rattle.hex.specs.Digits.{digit, byteAt, bytesFrom}
 use Rattle.hex.specs.Lines.{atEnd}
 use Rattle.hex.specs.Records.{allDigits}
-use Rattle.hex.specs.Steps.{digitTable, sumFrom, pastEnd, endLength, storedAt}
+use Rattle.hex.specs.Steps.{Decoded, Stored, digitTable, sumFrom, pastEnd, endLength, storedAt, isFresh}
 use Rattle.hex.proofs.Shape.{digits-at, digits-all}
 
-pub table-digit : (digits : List ℕ) (c : ℕ) → digits ≡ digitTable → c < 256 → getD digits c 0 ≡ digit c
-table-digit digits c e h = ap (λ l. getD l c 0) e ∙ getD-tabulate 256 digit c 0 h
+-- what the table tells of the bytes of a text
+pub table-tells : (digits text : List ℕ) → digits ≡ digitTable → Fit (fInt w8) 0 text → (k : ℕ) → getD digits (getD text k 0) 0 ≡ digit (getD text k 0)
+table-tells digits text e small k = ap (λ l. getD l (getD text k 0) 0) e ∙ getD-tabulate 256 digit (getD text k 0) 0 (omega (arith, small k))
+
+-- and that it has a place for each of them
+pub table-holds : (digits text : List ℕ) → digits ≡ digitTable → Fit (fInt w8) 0 text → (k : ℕ) → getD text k 0 < length digits
+table-holds digits text e small k = omega (arith, small k, ap length e, length-tabulate 256 digit)
 
 -- the end of a line at a place of the text
 module _ (text : List ℕ) (place : ℕ) where
@@ -95,7 +103,7 @@ module _ (text : List ℕ) (place n : ℕ) (fits : place + 2 * n ≤ length text
       go false e s = absurd (omega arith)
 
 -- two digits more
-pub digits-more : (text : List ℕ) (place i : ℕ) → ((k : ℕ) → k < 2 * i → digit (getD text (place + k) 0) < 16)
+digits-more : (text : List ℕ) (place i : ℕ) → ((k : ℕ) → k < 2 * i → digit (getD text (place + k) 0) < 16)
     → digit (getD text (place + 2 * i) 0) < 16 → digit (getD text (place + 2 * i + 1) 0) < 16
     → (k : ℕ) → k < 2 * (i + 1) → digit (getD text (place + k) 0) < 16
 digits-more text place i before high low k h = go (decLt k (2 * i)) (ℕ-discrete k (2 * i))
@@ -105,12 +113,48 @@ digits-more text place i before high low k h = go (decLt k (2 * i)) (ℕ-discret
     go (no l) (yes d) = rw d high
     go (no l) (no d) = let e : place + k ≡ place + 2 * i + 1 = omega arith in rw e low
 
+-- i bytes decoded and summed, and all their digits are digits
+pub record Decoding (text : List ℕ) (from : ℕ) (bytes₀ : List ℕ) (i : ℕ) (bytes : List ℕ) (sum : ℕ) : Type 0 where
+  pub filled : Filled (λ k. byteAt text (from + 2 * k)) i bytes bytes₀
+  pub summed : sum ≡ sumAll (bytesFrom text from i) % 256
+  pub digits : (k : ℕ) → k < 2 * i → digit (getD text (from + k) 0) < 16
+
+module _ (text : List ℕ) (from : ℕ) (bytes₀ : List ℕ) where
+  pub decoding-none : Decoding text from bytes₀ 0 bytes₀ 0
+  unfolding sumAll tabulate
+  decoding-none = record { filled = filled-none _ bytes₀; summed = refl; digits = λ k h. absurd (omega arith) }
+
+  module _ {i : ℕ} {bytes : List ℕ} {sum : ℕ} (so-far : Decoding text from bytes₀ i bytes sum) where
+    pub decoding-more : (byte sum′ : ℕ) → i < length bytes₀ → byte ≡ byteAt text (from + 2 * i) → digit (getD text (from + 2 * i) 0) < 16
+        → digit (getD text (from + 2 * i + 1) 0) < 16 → sum′ ≡ (sum + byte) % 256 → Decoding text from bytes₀ (i + 1) (set bytes i byte) sum′
+    decoding-more byte sum′ h e high low added =
+        record {
+          filled = filled-more _ i bytes bytes₀ byte h e (so-far .filled);
+          summed = sum-more i (λ k. byteAt text (from + 2 * k)) sum byte sum′ (so-far .summed) e added;
+          digits = digits-more text from i (so-far .digits) high low;
+        }
+
+    pub decoding-all : (n : ℕ) → i ≡ n → from + 2 * n ≤ length text → n ≤ length bytes₀ → Decoded text from n bytes sum
+    decoding-all n e reaches room =
+        record {
+          summed =
+              so-far .summed ∙ ap (λ m. sumAll (bytesFrom text from m) % 256) e ∙ sym (sum-good text from n reaches (λ k h. so-far .digits k (omega arith)));
+          front = λ h. ap (take n) (filled-all _ n i bytes bytes₀ e room (so-far .filled)) ∙ take-at _ _ n (length-tabulate n _);
+        }
+
+-- one of their digits is none
+pub decoded-none : (text : List ℕ) (from n : ℕ) (bytes : List ℕ) (place : ℕ) → from + 2 * n ≤ length text → from ≤ place → place < from + 2 * n
+    → 16 ≤ digit (getD text place 0) → Decoded text from n bytes 256
+decoded-none text from n bytes place reaches l h bad =
+    let e : from + (place - from) ≡ place = omega arith in
+    record { summed = sym (sum-bad text from n reaches (place - from) (omega arith) (rw e bad)); front = λ g. absurd (omega arith) }
+
 -- whether none of i + 1 numbers passes a test: not where the last does, and else as for those before it
 module _ (i : ℕ) (test : ℕ → Bool) where
-  pub none-ends : test i ≡ true → false ≡ eqb (firstOf (i + 1) test) (i + 1)
+  none-ends : test i ≡ true → false ≡ eqb (firstOf (i + 1) test) (i + 1)
   none-ends e = sym (ne-eqb _ _ (λ (d : firstOf (i + 1) test ≡ i + 1). false≢true (sym (first-before (i + 1) test i (omega arith)) ∙ e)))
 
-  pub none-more : test i ≡ false → eqb (firstOf i test) i ≡ eqb (firstOf (i + 1) test) (i + 1)
+  none-more : test i ≡ false → eqb (firstOf i test) i ≡ eqb (firstOf (i + 1) test) (i + 1)
   none-more e = go (ℕ-discrete (firstOf i test) i)
     where
       go : Dec (firstOf i test ≡ i) → eqb (firstOf i test) i ≡ eqb (firstOf (i + 1) test) (i + 1)
@@ -121,11 +165,11 @@ module _ (i : ℕ) (test : ℕ → Bool) where
 
 -- the scratch with one byte more stored
 module _ (bytes : List ℕ) (address i : ℕ) (scratch : List ℕ) where
-  pub stored-none : (a : ℕ) → getD scratch a 0 ≡ storedAt bytes address 0 scratch a
+  stored-none : (a : ℕ) → getD scratch a 0 ≡ storedAt bytes address 0 scratch a
   unfolding storedAt
   stored-none a = sym (patched-none address (λ k. getD bytes (4 + k) 0) a (getD scratch a 0))
 
-  pub stored-more : (now : List ℕ) (v : ℕ) → address + i < length now → v ≡ getD bytes (4 + i) 0
+  stored-more : (now : List ℕ) (v : ℕ) → address + i < length now → v ≡ getD bytes (4 + i) 0
       → ((a : ℕ) → getD now a 0 ≡ storedAt bytes address i scratch a)
       → (a : ℕ) → getD (set now (address + i) v) a 0 ≡ storedAt bytes address (i + 1) scratch a
   unfolding storedAt
@@ -141,6 +185,46 @@ module _ (bytes : List ℕ) (address i : ℕ) (scratch : List ℕ) where
       go (no d) = getD-set-other now (address + i) a v 0 d ∙ g a ∙ patched-other address shows i a (getD scratch a 0) d
 
   -- the others are as they were
-  pub stored-past : (a : ℕ) → address + i ≤ a → storedAt bytes address i scratch a ≡ getD scratch a 0
+  stored-past : (a : ℕ) → address + i ≤ a → storedAt bytes address i scratch a ≡ getD scratch a 0
   unfolding storedAt
   stored-past a h = patched-out address (λ k. getD bytes (4 + k) 0) i a (getD scratch a 0) h
+
+-- i bytes stored, and whether none of them was given before
+pub record Storing (bytes : List ℕ) (address : ℕ) (scratch₀ : List ℕ) (i : ℕ) (scratch : List ℕ) (fresh : Bool) : Type 0 where
+  pub size : length scratch ≡ length scratch₀
+  pub tells : fresh ≡ isFresh scratch₀ address i
+  pub held : (a : ℕ) → getD scratch a 0 ≡ storedAt bytes address i scratch₀ a
+
+module _ (bytes : List ℕ) (address : ℕ) (scratch₀ : List ℕ) where
+  pub storing-none : Storing bytes address scratch₀ 0 scratch₀ true
+  unfolding firstOf
+  storing-none = record { size = refl; tells = refl; held = stored-none bytes address 0 scratch₀ }
+
+  module _ {i : ℕ} {scratch : List ℕ} {fresh : Bool} (so-far : Storing bytes address scratch₀ i scratch fresh) where
+    given : ℕ → Bool
+    given k = ltb (getD scratch₀ (address + k) 0) 256
+
+    pub storing-more : (v : ℕ) (fresh′ : Bool) → address + i < length scratch₀ → v ≡ getD bytes (4 + i) 0
+        → fresh′ ≡ pick (ltb (getD scratch (address + i) 0) 256) false fresh → Storing bytes address scratch₀ (i + 1) (set scratch (address + i) v) fresh′
+    unfolding given
+    storing-more v fresh′ h e came =
+        record {
+          size = length-set scratch (address + i) v ∙ so-far .size;
+          tells = came ∙ ap (λ b. pick b false fresh) here ∙ go (given i) refl;
+          held = stored-more bytes address i scratch₀ scratch v (omega (arith, so-far .size)) e (so-far .held);
+        }
+      where
+        here : ltb (getD scratch (address + i) 0) 256 ≡ given i
+        here = ap (λ x. ltb x 256) (so-far .held (address + i) ∙ stored-past bytes address i scratch₀ (address + i) (omega arith))
+
+        go : (b : Bool) → given i ≡ b → pick (given i) false fresh ≡ isFresh scratch₀ address (i + 1)
+        go true d = rw d (none-ends i given d)
+        go false d = rw d (so-far .tells ∙ none-more i given d)
+
+    pub storing-all : (n : ℕ) → i ≡ n → length scratch₀ ≡ 8192 → Stored bytes n address scratch₀ scratch fresh
+    storing-all n e whole =
+        record {
+          tells = so-far .tells ∙ ap (isFresh scratch₀ address) e;
+          stored = λ t. is-tabulate 0 8192 (storedAt bytes address n scratch₀) scratch (so-far .size ∙ whole)
+              (λ k h. so-far .held k ∙ ap (λ m. storedAt bytes address m scratch₀ k) e);
+        }

@@ -1,20 +1,24 @@
--- What the reader's own steps give, in the words of the account: the line that starts at a place of a text, and the scratch in which the
--- records are collected. Only contracts of private functions cite these.
+-- What the reader's own steps ask and give, in the words of the account: the line that starts at a place of a text, and the scratch in
+-- which the records are collected. Only contracts of private functions cite these.
 -- Assumes nothing.
-use Prim.Native.Nat.{ℕ, _+_, _*_, _%_}
-use mathlib.Core.List.{List, [], _∷_}
+use Prim.Native.Nat.{ℕ, _+_, _*_, _%_, _<_, _≤_}
+use mathlib.Core.Path.{_≡_}
+use mathlib.Core.Bool.{Bool, true}
+use mathlib.Core.List.{List, [], _∷_, _++_}
 use lib.Dec.{eqb, ltb}
 use lib.ListN.{length, getD, take, drop, replicate}
 use Rattle.laws.specs.Pick.{pick}
-use Rattle.laws.specs.Lists.{tabulate}
+use Rattle.laws.specs.Lists.{tabulate, firstOf}
 use Rattle.laws.specs.Placing.{patched}
 use Rattle.laws.specs.Sums.{sumAll}
 use Rattle.image.specs.Image.{imageBytes, unused}
 use Rattle.hex.specs.Digits.{digit, bytesFrom}
 use Rattle.hex.specs.Lines.{lines, bodyOf, atEnd, LF}
-use Rattle.hex.specs.Records.{frame, isShaped, recordOf, allDigits, sumOf}
+use Rattle.hex.specs.Records.{frame, isShaped, recordOf, records, byteIn, allDigits, sumOf}
+use Rattle.hex.specs.Reading.{mostText, said, verdict}
 use Rattle.hex.specs.declared.Line.{Line}
 use Rattle.hex.specs.declared.Line.the-variants.{Shaped, Unshaped}
+use Rattle.hex.specs.declared.Outcome.{Outcome}
 
 -- the bytes of the longest record
 abbrev pub recordMost : ℕ
@@ -63,3 +67,46 @@ storedAt bytes address n scratch a = patched address n (λ i. getD bytes (4 + i)
 -- the byte of the image for what the scratch holds
 abbrev pub byteOf : ℕ → ℕ
 byteOf x = pick (ltb x notGiven) x unused
+
+-- what each step asks of what it is lent, and what it gives
+pub record ToCollect (digits text bytes scratch : List ℕ) : Type 0 where
+  pub table : digits ≡ digitTable
+  pub short : length text ≤ mostText
+  pub room : length bytes ≡ recordMost
+  pub empty : scratch ≡ unfilled
+
+pub record Collected (text scratch : List ℕ) (r : Outcome) : Type 0 where
+  pub says : said r ≡ verdict text
+  pub held : said r .number ≡ 0 → scratch ≡ tabulate imageBytes (byteIn notGiven (records text))
+
+pub record ToParse (digits text : List ℕ) (at : ℕ) (bytes : List ℕ) : Type 0 where
+  pub table : digits ≡ digitTable
+  pub here : at < length text
+  pub short : length text ≤ mostText
+  pub room : length bytes ≡ recordMost
+
+pub record Parsed (text : List ℕ) (at : ℕ) (bytes : List ℕ) (r : Line) : Type 0 where
+  pub line : r ≡ lineAt text at
+  pub front : take (length (recordAt text at)) bytes ≡ recordAt text at
+
+pub record ToDecode (digits text : List ℕ) (from n : ℕ) (bytes : List ℕ) : Type 0 where
+  pub table : digits ≡ digitTable
+  pub reaches : from + 2 * n ≤ length text
+  pub room : n ≤ length bytes
+
+pub record Decoded (text : List ℕ) (from n : ℕ) (bytes : List ℕ) (sum : ℕ) : Type 0 where
+  pub summed : sum ≡ sumFrom text from n
+  pub front : sum < 256 → take n bytes ≡ bytesFrom text from n
+
+pub record ToStore (bytes : List ℕ) (n address : ℕ) (scratch : List ℕ) : Type 0 where
+  pub held : 4 + n ≤ length bytes
+  pub fits : address + n ≤ imageBytes
+  pub whole : length scratch ≡ imageBytes
+
+-- whether none of n bytes from an address on is given
+abbrev pub isFresh : List ℕ → ℕ → ℕ → Bool
+isFresh scratch address n = eqb (firstOf n (λ i. ltb (getD scratch (address + i) 0) notGiven)) n
+
+pub record Stored (bytes : List ℕ) (n address : ℕ) (before after : List ℕ) (fresh : Bool) : Type 0 where
+  pub tells : fresh ≡ isFresh before address n
+  pub stored : fresh ≡ true → after ≡ tabulate imageBytes (storedAt bytes address n before)

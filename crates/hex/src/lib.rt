@@ -1,16 +1,12 @@
 // Intel's hexadecimal object format, types 00 and 01: the reader of a character image.
 ghost use mathlib.Core.Path.{_≡_};
-ghost use Prim.Native.Nat.{_+_, _*_, _<_, _≤_};
-ghost use mathlib.Core.Bool.{true, false};
+ghost use Prim.Native.Nat.{_≤_};
 ghost use mathlib.Core.List.{_++_};
-ghost use lib.Dec.{eqb, ltb};
-ghost use lib.ListN.{length, getD, take, drop};
-ghost use Rattle.laws.specs.Lists.{tabulate, firstOf};
+ghost use lib.ListN.{length, getD, drop};
+ghost use Rattle.laws.specs.Lists.{tabulate};
 ghost use Rattle.image.specs.Image.{imageBytes};
-ghost use Rattle.hex.specs.Digits.{bytesFrom};
-ghost use Rattle.hex.specs.Records.{records, byteIn};
-ghost use Rattle.hex.specs.Steps.{recordMost, digitTable, sumFrom, pastEnd, recordAt, lineAt, notGiven, unfilled, storedAt, byteOf};
-ghost use Rattle.hex.specs.Reading.{mostText, answerOf, leftOf, said, verdict};
+ghost use Rattle.hex.specs.Reading.{mostText, answerOf, leftOf, said};
+ghost use Rattle.hex.specs.Steps.{ToCollect, Collected, ToParse, Parsed, ToDecode, Decoded, ToStore, Stored, pastEnd, byteOf};
 
 mod digits;
 
@@ -82,9 +78,8 @@ pub fn read(text: &[u8], image: &mut [u8]) -> Outcome
 
 // The text's records into the scratch, with the answer. bytes is room for one record.
 fn collect(digits: &[u8], text: &[u8], bytes: &mut [u8], scratch: &mut [u16]) -> Outcome
-    requires { ⌜ (now digits ≡ digitTable) × (length (now text) ≤ mostText) × (length (now bytes) ≡ recordMost) × (now scratch ≡ unfilled) ⌝ }
-    ensures { λ r. ⌜ (said r ≡ verdict (now (text .entry)))
-        × (said r .number ≡ 0 → now (scratch .exit) ≡ tabulate imageBytes (byteIn notGiven (records (now (text .entry))))) ⌝ }
+    requires { ⌜ ToCollect (now digits) (now text) (now bytes) (now scratch) ⌝ }
+    ensures { λ r. ⌜ Collected (now (text .entry)) (now (scratch .exit)) r ⌝ }
 {
     let mut at = 0usize;
     let mut count = 0u32;
@@ -134,9 +129,8 @@ enum Line {
 
 // The record of the line that starts at a place, into bytes.
 fn parse(digits: &[u8], text: &[u8], at: usize, bytes: &mut [u8]) -> Line
-    requires { ⌜ (now digits ≡ digitTable) × (at < length (now text)) × (length (now text) ≤ mostText) × (length (now bytes) ≡ recordMost) ⌝ }
-    ensures { λ r. ⌜ (r ≡ lineAt (now (text .entry)) at)
-        × (take (length (recordAt (now (text .entry)) at)) (now (bytes .exit)) ≡ recordAt (now (text .entry)) at) ⌝ }
+    requires { ⌜ ToParse (now digits) (now text) at (now bytes) ⌝ }
+    ensures { λ r. ⌜ Parsed (now (text .entry)) at (now (bytes .exit)) r ⌝ }
 {
     if text.len() - at < LINE_LEAST {
         return Line::Unshaped;
@@ -173,8 +167,8 @@ fn parse(digits: &[u8], text: &[u8], at: usize, bytes: &mut [u8]) -> Line
 
 // n bytes of two digits each, from a place on: into bytes, with their eight-bit sum, carries dropped; or 256 where one is no digit.
 fn decode(digits: &[u8], text: &[u8], from: usize, n: usize, bytes: &mut [u8]) -> u16
-    requires { ⌜ (now digits ≡ digitTable) × (from + 2 * n ≤ length (now text)) × (n ≤ length (now bytes)) ⌝ }
-    ensures { λ r. ⌜ (r ≡ sumFrom (now (text .entry)) from n) × (r < 256 → take n (now (bytes .exit)) ≡ bytesFrom (now (text .entry)) from n) ⌝ }
+    requires { ⌜ ToDecode (now digits) (now text) from n (now bytes) ⌝ }
+    ensures { λ r. ⌜ Decoded (now (text .entry)) from n (now (bytes .exit)) r ⌝ }
 {
     let mut sum = 0u8;
     let mut i = 0usize;
@@ -221,9 +215,8 @@ fn past_end(text: &[u8], place: usize) -> usize
 // The data of a record into the scratch, and whether none of its bytes was there already: each is written all the same, so that
 // nothing but the length ends the loop.
 fn store(bytes: &[u8], n: usize, address: usize, scratch: &mut [u16]) -> bool
-    requires { ⌜ (4 + n ≤ length (now bytes)) × (address + n ≤ imageBytes) × (length (now scratch) ≡ imageBytes) ⌝ }
-    ensures { λ r. ⌜ (r ≡ eqb (firstOf n (λ i. ltb (getD (now (scratch .entry)) (address + i) 0) notGiven)) n)
-        × (r ≡ true → now (scratch .exit) ≡ tabulate imageBytes (storedAt (now (bytes .entry)) address n (now (scratch .entry)))) ⌝ }
+    requires { ⌜ ToStore (now bytes) n address (now scratch) ⌝ }
+    ensures { λ r. ⌜ Stored (now (bytes .entry)) n address (now (scratch .entry)) (now (scratch .exit)) r ⌝ }
 {
     let mut fresh = true;
     let mut i = 0usize;

@@ -2,6 +2,10 @@
 -- Assumes nothing.
 use borrow.Author.Tests.{le-ltb, lt-ltb}
 use native.Mathlib.Omega.{arith}
+use lib.Dec.{ltb}
+use mathlib.Core.Bool.{true, false}
+use mathlib.Core.Path.{_≡_}
+use Rattle.hex.specs.Steps.{notGiven}
 use borrow.Author.Needs.{needs}
 use Rattle.hex.proofs.byte_of.Statement.{statement}
 use Rattle.hex.proofs.byte_of.Tie as tie
@@ -10,10 +14,16 @@ cast-result : tie.Need-cast-result
 cast-result c = search needs
 
 returns : tie.Need-returns
-returns c = simp (lt-ltb _ _ (c .if1 .taken))
+returns c =
+    let a = (let s : tie.Start = search in s .args) in
+    let given : ltb (a .x) notGiven ≡ true = omega (arith, lt-ltb) in
+    simp given
 
 returns-2 : tie.Need-returns-2
-returns-2 c = simp (le-ltb _ _ (c .if1 .left)) (omega arith)
+returns-2 c =
+    let a = (let s : tie.Start = search in s .args) in
+    let given : ltb (a .x) notGiven ≡ false = omega (arith, le-ltb) in
+    simp given (omega arith)
 
 pub byte-of-spec : {M : Type 1} → statement M
 byte-of-spec = tie.close (tie.spec cast-result returns returns-2)

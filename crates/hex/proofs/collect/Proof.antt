@@ -1,45 +1,31 @@
 -- `hex::collect` meets its contract: how far the reading has come (`Passed`) is the invariant, and each answer is the verdict at the line met; the measure is what is left of the text.
 -- Assumes nothing.
-use Rattle.hex.proofs.Passed.{unfilled-length}
-use Rattle.hex.proofs.Answers.{Met, met-next, met-sum, met-long-end, met-far-end, met-more, met-done, met-all, met-type, met-past, met-twice, met-passed}
-use Rattle.hex.proofs.Faults.{fault-shape}
+use Rattle.hex.proofs.Passed.{passed-none, unfilled-length}
+use Rattle.hex.proofs.Answers.{Turn, bytes-fit, refused-by, over, meets, meets-none, met-next, met-sum, met-long-end, met-far-end, met-more, met-done, met-all, met-type, met-past, met-twice, met-passed}
 use Rattle.laws.proofs.Said.{said-by}
 use borrow.Author.Needs.{needs}
-use Rattle.hex.proofs.Passed.{Passed, passed-none, verdict-over, verdict-fault, line-unshaped}
 use native.Mathlib.Omega.{arith}
 use lib.ListN.{length}
-use mathlib.Core.Path.{_≡_, refl, sym, _∙_, ap}
+use mathlib.Core.Path.{refl, ap}
 use Prim.Native.Nat.{_-_}
 use Rattle.hex.proofs.collect.Statement.{statement}
 use Rattle.hex.proofs.collect.Tie as tie
 
 abbrev Inv-loop : tie.InvT-loop
-Inv-loop digits text bytes₀ scratch₀ at₀ count₀ bytes scratch at count = Passed text at count scratch × (length bytes ≡ length bytes₀) × (length scratch ≡ length scratch₀)
+Inv-loop digits text bytes₀ scratch₀ at₀ count₀ bytes scratch at count = Turn text bytes₀ scratch₀ bytes scratch at count
 
 abbrev μ-loop : tie.MeasureT-loop
 μ-loop digits text bytes₀ scratch₀ at₀ count₀ bytes scratch at count = length text - at
 
--- the turn of the loop in which a line was parsed, and that line
-abbrev turn : tie.After-sum Inv-loop μ-loop → tie.At-loop Inv-loop μ-loop
-turn c = c .before .before .before .before .before .before .before
-
-abbrev met : (c : tie.After-sum Inv-loop μ-loop) → Met (turn c .before .before .before .before .before .args .text .now) (turn c .loop .at) (turn c .loop .count) (turn c .loop .scratch)
-met c = let parsed = c .before .before .before .before in
-    record {
-      bytes = _;
-      sum = _;
-      next = _;
-      before = turn c .loop .inv .0;
-      more = parsed .before .before .loop-test .taken;
-      line = sym (c .sum .given .1) ∙ parsed .parse .ensures .0;
-      front = parsed .parse .ensures .1;
-    }
-
 loop-holds : tie.Need-loop-holds Inv-loop μ-loop
-loop-holds c = let s = c .before .before .before .before in (rw (s .pre .3) (passed-none (s .args .text .now)), refl, refl)
+loop-holds c =
+    let pre = (let s : tie.Start Inv-loop μ-loop = search in s .pre) in
+    record { passed = rw (pre .empty) (passed-none _); room = refl; whole = refl }
 
 parse-requires : tie.Need-parse-requires Inv-loop μ-loop
-parse-requires c κs = let s = c .before .before .before .before .before .before .before in let at = c .before .before .loop in (s .pre .0, omega arith, s .pre .1, at .inv .1 ∙ s .pre .2)
+parse-requires c κs =
+    let pre = (let s : tie.Start Inv-loop μ-loop = search in s .pre) in
+    record { table = pre .table; here = omega arith; short = omega arith; room = omega arith }
 
 enum-known-sum : tie.Need-enum-known-sum Inv-loop μ-loop
 enum-known-sum c = search needs
@@ -57,11 +43,11 @@ same-length-2 : tie.Need-same-length-2 Inv-loop μ-loop
 same-length-2 c = search needs
 
 returns : tie.Need-returns Inv-loop μ-loop
-returns c = let parsed = c .before .before .before .before in let loop = parsed .before .before .before .loop in (
-  said-by (sym (verdict-fault (parsed .before .before .before .before .before .before .before .before .args .text .now) (loop .at) (loop .count) (loop .scratch) (loop .inv .0) (omega arith) 7 (omega arith)
-      (fault-shape _ _ (line-unshaped _ (loop .at) (sym (c .enum-told .given .1) ∙ parsed .parse .ensures .0))))) (omega arith) (omega arith) (omega arith),
-  λ e. absurd (omega arith),
-)
+returns c =
+    let turn = (let h : tie.At-loop Inv-loop μ-loop = search in h .loop) in
+    let parsed = (let p : tie.After-parse Inv-loop μ-loop = search in p .parse .ensures) in
+    let told = (let l : tie.After-enum-told Inv-loop μ-loop = search in l .enum-told .given .1) in
+    refused-by (meets-none (turn .inv .passed) (omega arith) parsed told) (omega arith) (omega arith) (omega arith) (omega arith)
 
 cast-t18 : tie.Need-cast-t18 Inv-loop μ-loop
 cast-t18 c = search needs
@@ -73,31 +59,51 @@ same-length-4 : tie.Need-same-length-4 Inv-loop μ-loop
 same-length-4 c = search needs
 
 returns-2 : tie.Need-returns-2 Inv-loop μ-loop
-returns-2 c = (said-by (met-sum (met (c .before .before)) (c .if1 .taken)) (omega arith) (omega arith) (omega arith), λ e. absurd (omega arith))
+returns-2 c =
+    let turn = (let h : tie.At-loop Inv-loop μ-loop = search in h .loop) in
+    let parsed = (let p : tie.After-parse Inv-loop μ-loop = search in p .parse .ensures) in
+    let told = (let l : tie.After-sum Inv-loop μ-loop = search in l .sum .given .1) in
+    let met = meets (turn .inv .passed) (omega arith) parsed told in
+    refused-by (met-sum met (omega arith)) (omega arith) (omega arith) (omega arith) (omega arith)
 
 slice-read-n : tie.Need-slice-read-n Inv-loop μ-loop
 slice-read-n c = search needs
 
 cast-n : tie.Need-cast-n Inv-loop μ-loop
-cast-n c = omega (arith, c .slice-known4 .given 0)
+cast-n c =
+    let parsed = (let p : tie.After-parse Inv-loop μ-loop = search in p .parse .ensures) in
+    let small = bytes-fit parsed (search) in
+    omega (arith, small 0)
 
 slice-read-address : tie.Need-slice-read-address Inv-loop μ-loop
 slice-read-address c = search needs
 
 cast-address : tie.Need-cast-address Inv-loop μ-loop
-cast-address c = omega (arith, c .slice-known5 .given 1)
+cast-address c =
+    let parsed = (let p : tie.After-parse Inv-loop μ-loop = search in p .parse .ensures) in
+    let small = bytes-fit parsed (search) in
+    omega (arith, small 1)
 
 mul-address : tie.Need-mul-address Inv-loop μ-loop
-mul-address c = omega (arith, c .slice-known5 .given 1)
+mul-address c =
+    let parsed = (let p : tie.After-parse Inv-loop μ-loop = search in p .parse .ensures) in
+    let small = bytes-fit parsed (search) in
+    omega (arith, small 1)
 
 slice-read-address-2 : tie.Need-slice-read-address-2 Inv-loop μ-loop
 slice-read-address-2 c = search needs
 
 cast-address-2 : tie.Need-cast-address-2 Inv-loop μ-loop
-cast-address-2 c = omega (arith, c .slice-known6 .given 2)
+cast-address-2 c =
+    let parsed = (let p : tie.After-parse Inv-loop μ-loop = search in p .parse .ensures) in
+    let small = bytes-fit parsed (search) in
+    omega (arith, small 2)
 
 add-address : tie.Need-add-address Inv-loop μ-loop
-add-address c = omega (arith, c .before .slice-known5 .given 1, c .slice-known6 .given 2)
+add-address c =
+    let parsed = (let p : tie.After-parse Inv-loop μ-loop = search in p .parse .ensures) in
+    let small = bytes-fit parsed (search) in
+    omega (arith, small 1, small 2)
 
 slice-read-kind : tie.Need-slice-read-kind Inv-loop μ-loop
 slice-read-kind c = search needs
@@ -112,7 +118,12 @@ same-length-6 : tie.Need-same-length-6 Inv-loop μ-loop
 same-length-6 c = search needs
 
 returns-3 : tie.Need-returns-3 Inv-loop μ-loop
-returns-3 c = let first = c .before .before .before .before .before .before in (said-by (met-long-end (met (first .before .before)) (first .if1 .left) (c .before .if2 .taken) (c .if3 .taken)) (omega arith) (omega arith) (omega arith), λ e. absurd (omega arith))
+returns-3 c =
+    let turn = (let h : tie.At-loop Inv-loop μ-loop = search in h .loop) in
+    let parsed = (let p : tie.After-parse Inv-loop μ-loop = search in p .parse .ensures) in
+    let told = (let l : tie.After-sum Inv-loop μ-loop = search in l .sum .given .1) in
+    let met = meets (turn .inv .passed) (omega arith) parsed told in
+    refused-by (met-long-end met (omega arith) (omega arith) (omega arith)) (omega arith) (omega arith) (omega arith) (omega arith)
 
 cast-t29 : tie.Need-cast-t29 Inv-loop μ-loop
 cast-t29 c = search needs
@@ -124,7 +135,12 @@ same-length-8 : tie.Need-same-length-8 Inv-loop μ-loop
 same-length-8 c = search needs
 
 returns-4 : tie.Need-returns-4 Inv-loop μ-loop
-returns-4 c = let first = c .before .before .before .before .before .before .before in (said-by (met-far-end (met (first .before .before)) (first .if1 .left) (c .before .before .if2 .taken) (c .before .if3 .left) (λ e. omega arith)) (omega arith) (omega arith) (omega arith), λ e. absurd (omega arith))
+returns-4 c =
+    let turn = (let h : tie.At-loop Inv-loop μ-loop = search in h .loop) in
+    let parsed = (let p : tie.After-parse Inv-loop μ-loop = search in p .parse .ensures) in
+    let told = (let l : tie.After-sum Inv-loop μ-loop = search in l .sum .given .1) in
+    let met = meets (turn .inv .passed) (omega arith) parsed told in
+    refused-by (met-far-end met (omega arith) (omega arith) (omega arith) (omega arith)) (omega arith) (omega arith) (omega arith) (omega arith)
 
 cast-t31 : tie.Need-cast-t31 Inv-loop μ-loop
 cast-t31 c = search needs
@@ -136,7 +152,12 @@ same-length-10 : tie.Need-same-length-10 Inv-loop μ-loop
 same-length-10 c = search needs
 
 returns-5 : tie.Need-returns-5 Inv-loop μ-loop
-returns-5 c = let first = c .before .before .before .before .before .before .before .before in (said-by (met-more (met (first .before .before)) (first .if1 .left) (c .before .before .before .if2 .taken) (c .before .before .if3 .left) (omega arith) (c .if5 .taken)) (omega arith) (omega arith) (omega arith), λ e. absurd (omega arith))
+returns-5 c =
+    let turn = (let h : tie.At-loop Inv-loop μ-loop = search in h .loop) in
+    let parsed = (let p : tie.After-parse Inv-loop μ-loop = search in p .parse .ensures) in
+    let told = (let l : tie.After-sum Inv-loop μ-loop = search in l .sum .given .1) in
+    let met = meets (turn .inv .passed) (omega arith) parsed told in
+    refused-by (met-more met (omega arith) (omega arith) (omega arith) (omega arith) (omega arith)) (omega arith) (omega arith) (omega arith) (omega arith)
 
 same-length-11 : tie.Need-same-length-11 Inv-loop μ-loop
 same-length-11 c = search needs
@@ -145,8 +166,12 @@ same-length-12 : tie.Need-same-length-12 Inv-loop μ-loop
 same-length-12 c = search needs
 
 returns-6 : tie.Need-returns-6 Inv-loop μ-loop
-returns-6 c = let first = c .before .before .before .before .before .before .before .before in
-    (said-by (met-done (met (first .before .before)) (first .if1 .left) (c .before .before .before .if2 .taken) (c .before .before .if3 .left) (omega arith) (c .if5 .left)) (omega arith) (omega arith) (omega arith), λ e. met-all (met (first .before .before)) (first .if1 .left) (c .before .before .before .if2 .taken) (c .before .before .if3 .left) (omega arith) (c .if5 .left))
+returns-6 c =
+    let turn = (let h : tie.At-loop Inv-loop μ-loop = search in h .loop) in
+    let parsed = (let p : tie.After-parse Inv-loop μ-loop = search in p .parse .ensures) in
+    let told = (let l : tie.After-sum Inv-loop μ-loop = search in l .sum .given .1) in
+    let met = meets (turn .inv .passed) (omega arith) parsed told in
+    record { says = said-by (met-done met (omega arith) (omega arith) (omega arith) (omega arith) (omega arith)) (omega arith) (omega arith) (omega arith); held = λ e. met-all met (omega arith) (omega arith) (omega arith) (omega arith) (omega arith) }
 
 cast-t32 : tie.Need-cast-t32 Inv-loop μ-loop
 cast-t32 c = search needs
@@ -158,10 +183,18 @@ same-length-14 : tie.Need-same-length-14 Inv-loop μ-loop
 same-length-14 c = search needs
 
 returns-7 : tie.Need-returns-7 Inv-loop μ-loop
-returns-7 c = let first = c .before .before .before .before .before .before in (said-by (met-type (met (first .before .before)) (first .if1 .left) (c .before .if2 .left) (λ e. omega arith)) (omega arith) (omega arith) (omega arith), λ e. absurd (omega arith))
+returns-7 c =
+    let turn = (let h : tie.At-loop Inv-loop μ-loop = search in h .loop) in
+    let parsed = (let p : tie.After-parse Inv-loop μ-loop = search in p .parse .ensures) in
+    let told = (let l : tie.After-sum Inv-loop μ-loop = search in l .sum .given .1) in
+    let met = meets (turn .inv .passed) (omega arith) parsed told in
+    refused-by (met-type met (omega arith) (omega arith) (omega arith)) (omega arith) (omega arith) (omega arith) (omega arith)
 
 add-if7 : tie.Need-add-if7 Inv-loop μ-loop
-add-if7 c = omega (arith, c .before .before .before .before .before .slice-known4 .given 0, c .before .before .before .before .slice-known5 .given 1, c .before .before .before .slice-known6 .given 2)
+add-if7 c =
+    let parsed = (let p : tie.After-parse Inv-loop μ-loop = search in p .parse .ensures) in
+    let small = bytes-fit parsed (search) in
+    omega (arith, small 0, small 1, small 2)
 
 cast-t33 : tie.Need-cast-t33 Inv-loop μ-loop
 cast-t33 c = search needs
@@ -173,14 +206,19 @@ same-length-16 : tie.Need-same-length-16 Inv-loop μ-loop
 same-length-16 c = search needs
 
 returns-8 : tie.Need-returns-8 Inv-loop μ-loop
-returns-8 c = let first = c .before .before .before .before .before .before .before in (said-by (met-past (met (first .before .before)) (first .if1 .left) (c .before .before .if2 .left) (omega arith) (c .if7 .taken)) (omega arith) (omega arith) (omega arith), λ e. absurd (omega arith))
+returns-8 c =
+    let turn = (let h : tie.At-loop Inv-loop μ-loop = search in h .loop) in
+    let parsed = (let p : tie.After-parse Inv-loop μ-loop = search in p .parse .ensures) in
+    let told = (let l : tie.After-sum Inv-loop μ-loop = search in l .sum .given .1) in
+    let met = meets (turn .inv .passed) (omega arith) parsed told in
+    refused-by (met-past met (omega arith) (omega arith) (omega arith) (omega arith)) (omega arith) (omega arith) (omega arith) (omega arith)
 
 store-requires : tie.Need-store-requires Inv-loop μ-loop
-store-requires c κs = let fits = c .before .before in let parsed = fits .before .before .before .before .before .before .before .before .before .before .before .before .before in (
-  omega (arith, parsed .parse .kept .1 .1 .1 .0, fits .before .before .before .before .before .before .slice-known4 .given 0),
-  fits .if7 .left,
-  omega (arith, ap length (parsed .before .before .before .before .before .before .before .before .pre .3), unfilled-length),
-)
+store-requires c κs =
+    let pre = (let s : tie.Start Inv-loop μ-loop = search in s .pre) in
+    let parsed = (let p : tie.After-parse Inv-loop μ-loop = search in p .parse .ensures) in
+    let small = bytes-fit parsed (search) in
+    record { held = omega (arith, small 0); fits = omega arith; whole = omega (arith, ap length (pre .empty), unfilled-length) }
 
 cast-count : tie.Need-cast-count Inv-loop μ-loop
 cast-count c = search needs
@@ -189,14 +227,21 @@ add-count : tie.Need-add-count Inv-loop μ-loop
 add-count c = search needs
 
 loop-less : tie.Need-loop-less Inv-loop μ-loop
-loop-less c = omega (arith, met-next (met (c .before .before .before .before .before .before .before .before .before .before .before .before .before .before .before)) .1)
+loop-less c =
+    let turn = (let h : tie.At-loop Inv-loop μ-loop = search in h .loop) in
+    let parsed = (let p : tie.After-parse Inv-loop μ-loop = search in p .parse .ensures) in
+    let told = (let l : tie.After-sum Inv-loop μ-loop = search in l .sum .given .1) in
+    let met = meets (turn .inv .passed) (omega arith) parsed told in
+    omega (arith, met-next met .1)
 
 loop-again : tie.Need-loop-again Inv-loop μ-loop
-loop-again c = let kept = c .before .before .before .store in let fits = c .before .before .before .before .before .before in let first = fits .before .before .before .before .before .before .before in let parsed = first .before .before .before .before .before .before in let loop = parsed .before .before .before .loop in (
-  rw (kept .ensures .1 (c .if8 .taken)) (met-passed (met (first .before .before)) (first .if1 .left) (fits .before .before .if2 .left) (omega arith) (fits .if7 .left) (sym (c .if8 .taken) ∙ kept .ensures .0)),
-  parsed .parse .kept .1 .1 .1 .0 ∙ loop .inv .1,
-  kept .kept .1 .1 .1 .0 ∙ loop .inv .2,
-)
+loop-again c =
+    let turn = (let h : tie.At-loop Inv-loop μ-loop = search in h .loop) in
+    let parsed = (let p : tie.After-parse Inv-loop μ-loop = search in p .parse .ensures) in
+    let told = (let l : tie.After-sum Inv-loop μ-loop = search in l .sum .given .1) in
+    let met = meets (turn .inv .passed) (omega arith) parsed told in
+    let stored = (let k : tie.After-store Inv-loop μ-loop = search in k .store .ensures) in
+    record { passed = met-passed met (omega arith) (omega arith) (omega arith) (omega arith) stored (search); room = omega arith; whole = omega arith }
 
 cast-t40 : tie.Need-cast-t40 Inv-loop μ-loop
 cast-t40 c = search needs
@@ -208,8 +253,13 @@ same-length-18 : tie.Need-same-length-18 Inv-loop μ-loop
 same-length-18 c = search needs
 
 returns-9 : tie.Need-returns-9 Inv-loop μ-loop
-returns-9 c = let fits = c .before .before .before .before .before .before in let first = fits .before .before .before .before .before .before .before in
-    (said-by (met-twice (met (first .before .before)) (first .if1 .left) (fits .before .before .if2 .left) (omega arith) (fits .if7 .left) (sym (c .if8 .left) ∙ c .before .before .before .store .ensures .0)) (omega arith) (omega arith) (omega arith), λ e. absurd (omega arith))
+returns-9 c =
+    let turn = (let h : tie.At-loop Inv-loop μ-loop = search in h .loop) in
+    let parsed = (let p : tie.After-parse Inv-loop μ-loop = search in p .parse .ensures) in
+    let told = (let l : tie.After-sum Inv-loop μ-loop = search in l .sum .given .1) in
+    let met = meets (turn .inv .passed) (omega arith) parsed told in
+    let stored = (let k : tie.After-store Inv-loop μ-loop = search in k .store .ensures) in
+    refused-by (met-twice met (omega arith) (omega arith) (omega arith) (omega arith) stored (search)) (omega arith) (omega arith) (omega arith) (omega arith)
 
 cast-t41 : tie.Need-cast-t41 Inv-loop μ-loop
 cast-t41 c = search needs
@@ -221,8 +271,9 @@ same-length-20 : tie.Need-same-length-20 Inv-loop μ-loop
 same-length-20 c = search needs
 
 returns-10 : tie.Need-returns-10 Inv-loop μ-loop
-returns-10 c = let s = c .before .before .before .before .before .before in let at = c .before .loop in
-    (said-by (sym (verdict-over (s .args .text .now) (at .at) (at .count) (at .scratch) (at .inv .0) (omega arith))) (omega arith) (omega arith) (omega arith), λ e. absurd (omega arith))
+returns-10 c =
+    let turn = (let h : tie.At-loop Inv-loop μ-loop = search in h .loop) in
+    refused-by (over (turn .inv .passed) (omega arith)) (omega arith) (omega arith) (omega arith) (omega arith)
 
 pub collect-spec : {M : Type 1} → statement M
 collect-spec =

@@ -28,7 +28,7 @@ byte-of-requires : tie.Need-byte-of-requires Inv-loop μ-loop
 byte-of-requires c κs = search needs
 
 slice-write-image : tie.Need-slice-write-image Inv-loop μ-loop
-slice-write-image c = omega (arith, c .before .before .before .loop .inv .1 .size)
+slice-write-image c = search needs
 
 add-i : tie.Need-add-i Inv-loop μ-loop
 add-i c = search needs
@@ -37,14 +37,18 @@ loop-less : tie.Need-loop-less Inv-loop μ-loop
 loop-less c = search needs
 
 loop-again : tie.Need-loop-again Inv-loop μ-loop
-loop-again c = let at = c .before .before .before in
-    (omega arith, filled-more _ (at .loop .i) (at .loop .image) _ _ (omega arith) (c .byte-of .ensures) (at .loop .inv .1))
+loop-again c =
+    let turn = (let h : tie.At-loop Inv-loop μ-loop = search in h .loop) in
+    let is = (let b : tie.After-byte-of Inv-loop μ-loop = search in b .byte-of .ensures) in
+    (omega arith, filled-more _ (turn .i) (turn .image) _ _ (omega arith) is (turn .inv .1))
 
 same-length : tie.Need-same-length Inv-loop μ-loop
-same-length c = c .before .loop .inv .1 .size
+same-length c = search needs
 
 returns : tie.Need-returns Inv-loop μ-loop
-returns c = let at = c .before in filled-all _ 8192 (at .loop .i) (at .loop .image) _ (omega arith) (omega arith) (at .loop .inv .1)
+returns c =
+    let turn = (let h : tie.At-loop Inv-loop μ-loop = search in h .loop) in
+    filled-all _ 8192 (turn .i) (turn .image) _ (omega arith) (omega arith) (turn .inv .1)
 
 pub copy-out-spec : {M : Type 1} → statement M
 copy-out-spec =

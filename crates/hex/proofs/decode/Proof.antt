@@ -1,28 +1,26 @@
 -- `hex::decode` meets its contract: the bytes passed are decoded and summed, and all their digits are digits; the measure is what is left of them.
 -- Assumes nothing.
+use mir.Syntax.{w8}
+use borrow.Table.Referent.{fInt}
+use borrow.Rule.Slice.Know.{Fit}
 use borrow.Author.Needs.{needs}
-use Rattle.hex.proofs.Steps.{table-digit, sum-bad, sum-good, sum-more, digits-more}
-use Rattle.laws.specs.Sums.{sumAll}
-use Rattle.hex.specs.Digits.{digit, byteAt, bytesFrom}
-use Rattle.laws.proofs.Lists.{Filled, filled-none, filled-more, filled-all, length-tabulate}
+use Rattle.hex.proofs.Steps.{table-tells, table-holds, Decoding, decoding-none, decoding-more, decoding-all, decoded-none}
+use Rattle.hex.specs.Digits.{digit}
 use native.Mathlib.Omega.{arith}
-use lib.Seq.{take-at}
-use lib.ListN.{length, getD, take}
-use mathlib.Core.Path.{_≡_, refl, sym, _∙_, ap}
-use Prim.Native.Nat.{ℕ, _≤_, _<_, _-_, _+_, _*_, _%_}
+use lib.ListN.{getD}
+use mathlib.Core.Path.{_≡_}
+use Prim.Native.Nat.{ℕ, _≤_, _-_, _+_, _*_}
 use Rattle.hex.proofs.decode.Statement.{statement}
 use Rattle.hex.proofs.decode.Tie as tie
 
 abbrev Inv-loop : tie.InvT-loop
-Inv-loop digits text from n bytes₀ sum₀ i₀ bytes sum i = (i ≤ n) × Filled (λ k. byteAt text (from + 2 * k)) i bytes bytes₀ × (sum ≡ sumAll (bytesFrom text from i) % 256)
-    × ((k : ℕ) → k < 2 * i → digit (getD text (from + k) 0) < 16)
+Inv-loop digits text from n bytes₀ sum₀ i₀ bytes sum i = (i ≤ n) × Decoding text from bytes₀ i bytes sum
 
 abbrev μ-loop : tie.MeasureT-loop
 μ-loop digits text from n bytes₀ sum₀ i₀ bytes sum i = n - i
 
 loop-holds : tie.Need-loop-holds Inv-loop μ-loop
-unfolding sumAll Rattle.laws.specs.Lists.tabulate
-loop-holds c = (omega arith, filled-none _ _, refl, λ k h. absurd (omega arith))
+loop-holds c = (omega arith, decoding-none _ _ _)
 
 mul-high : tie.Need-mul-high Inv-loop μ-loop
 mul-high c = search needs
@@ -34,18 +32,24 @@ shared-slice-read-high : tie.Need-shared-slice-read-high Inv-loop μ-loop
 shared-slice-read-high c = search needs
 
 cast-high : tie.Need-cast-high Inv-loop μ-loop
-cast-high c = omega (arith, c .shared-slice-known3 .given (c .before .before .before .before .before .before .args .from + 2 * c .before .before .loop .i))
+cast-high c =
+    let a = (let s : tie.Start Inv-loop μ-loop = search in s .args) in
+    let turn = (let h : tie.At-loop Inv-loop μ-loop = search in h .loop) in
+    let small : Fit (fInt w8) 0 (a .text .now) = search in
+    omega (arith, small (a .from + 2 * turn .i))
 
 shared-slice-read-high-2 : tie.Need-shared-slice-read-high-2 Inv-loop μ-loop
-shared-slice-read-high-2 c = let a = c .before .before .before .before .before .before .before .args in omega (arith, c .before .shared-slice-known3 .given (a .from + 2 * c .before .before .before .loop .i), ap length (c .before .before .before .before .before .before .before .pre .0), length-tabulate 256 digit)
+shared-slice-read-high-2 c = search table-holds
 
 same-length : tie.Need-same-length Inv-loop μ-loop
-same-length c = c .before .before .before .before .loop .inv .1 .size
+same-length c = search needs
 
 returns : tie.Need-returns Inv-loop μ-loop
-returns c = let a = c .before .before .before .before .before .before .before .before .args in let i = c .before .before .before .before .loop .i in let p = a .from + 2 * i in
-    let high = table-digit (a .digits .now) (getD (a .text .now) p 0) (c .before .before .before .before .before .before .before .before .pre .0) (omega (arith, c .before .before .shared-slice-known3 .given p)) in
-    (sym (sum-bad (a .text .now) (a .from) (a .n) (c .before .before .before .before .before .before .before .before .pre .1) (2 * i) (omega arith) (omega (arith, high))), λ h. absurd (omega arith))
+returns c =
+    let a = (let s : tie.Start Inv-loop μ-loop = search in s .args) in
+    let turn = (let h : tie.At-loop Inv-loop μ-loop = search in h .loop) in
+    let tells : (k : ℕ) → getD (a .digits .now) (getD (a .text .now) k 0) 0 ≡ digit (getD (a .text .now) k 0) = search table-tells in
+    decoded-none (a .text .now) (a .from) (a .n) _ (a .from + 2 * turn .i) (omega arith) (omega arith) (omega arith) (omega (arith, tells (a .from + 2 * turn .i)))
 
 mul-low : tie.Need-mul-low Inv-loop μ-loop
 mul-low c = search needs
@@ -60,19 +64,24 @@ shared-slice-read-low : tie.Need-shared-slice-read-low Inv-loop μ-loop
 shared-slice-read-low c = search needs
 
 cast-low : tie.Need-cast-low Inv-loop μ-loop
-cast-low c = omega (arith, c .shared-slice-known5 .given (c .before .before .before .before .before .before .before .before .before .args .from + 2 * c .before .before .before .before .before .loop .i + 1))
+cast-low c =
+    let a = (let s : tie.Start Inv-loop μ-loop = search in s .args) in
+    let turn = (let h : tie.At-loop Inv-loop μ-loop = search in h .loop) in
+    let small : Fit (fInt w8) 0 (a .text .now) = search in
+    omega (arith, small (a .from + 2 * turn .i + 1))
 
 shared-slice-read-low-2 : tie.Need-shared-slice-read-low-2 Inv-loop μ-loop
-shared-slice-read-low-2 c = let a = c .before .before .before .before .before .before .before .before .before .before .args in omega (arith, c .before .shared-slice-known5 .given (a .from + 2 * c .before .before .before .before .before .before .loop .i + 1), ap length (c .before .before .before .before .before .before .before .before .before .before .pre .0), length-tabulate 256 digit)
+shared-slice-read-low-2 c = search table-holds
 
 same-length-2 : tie.Need-same-length-2 Inv-loop μ-loop
-same-length-2 c = c .before .before .before .before .before .before .before .loop .inv .1 .size
+same-length-2 c = search needs
 
 returns-2 : tie.Need-returns-2 Inv-loop μ-loop
-returns-2 c = let a = c .before .before .before .before .before .before .before .before .before .before .before .args in let i = c .before .before .before .before .before .before .before .loop .i in let p = a .from + 2 * i + 1 in
-    let low = table-digit (a .digits .now) (getD (a .text .now) p 0) (c .before .before .before .before .before .before .before .before .before .before .before .pre .0) (omega (arith, c .before .before .shared-slice-known5 .given p)) in
-    let same : p ≡ a .from + (2 * i + 1) = omega arith in
-    (sym (sum-bad (a .text .now) (a .from) (a .n) (c .before .before .before .before .before .before .before .before .before .before .before .pre .1) (2 * i + 1) (omega arith) (omega (arith, low, ap (λ q. digit (getD (a .text .now) q 0)) same))), λ h. absurd (omega arith))
+returns-2 c =
+    let a = (let s : tie.Start Inv-loop μ-loop = search in s .args) in
+    let turn = (let h : tie.At-loop Inv-loop μ-loop = search in h .loop) in
+    let tells : (k : ℕ) → getD (a .digits .now) (getD (a .text .now) k 0) 0 ≡ digit (getD (a .text .now) k 0) = search table-tells in
+    decoded-none (a .text .now) (a .from) (a .n) _ (a .from + 2 * turn .i + 1) (omega arith) (omega arith) (omega arith) (omega (arith, tells (a .from + 2 * turn .i + 1)))
 
 mul-byte : tie.Need-mul-byte Inv-loop μ-loop
 mul-byte c = search needs
@@ -84,7 +93,7 @@ wrapping-add-u8-requires : tie.Need-wrapping-add-u8-requires Inv-loop μ-loop
 wrapping-add-u8-requires c κs = search needs
 
 slice-write-bytes : tie.Need-slice-write-bytes Inv-loop μ-loop
-slice-write-bytes c = omega (arith, c .before .before .before .before .before .before .before .before .loop .inv .1 .size)
+slice-write-bytes c = search needs
 
 add-i : tie.Need-add-i Inv-loop μ-loop
 add-i c = search needs
@@ -93,30 +102,25 @@ loop-less : tie.Need-loop-less Inv-loop μ-loop
 loop-less c = search needs
 
 loop-again : tie.Need-loop-again Inv-loop μ-loop
-loop-again c = let a = c .before .before .before .before .before .before .before .before .before .before .before .before .args in let at = c .before .before .before .before .before .before .before .before .loop in let p = a .from + 2 * at .i in
-    let high = table-digit (a .digits .now) (getD (a .text .now) p 0) (c .before .before .before .before .before .before .before .before .before .before .before .before .pre .0) (omega (arith, c .before .before .before .before .before .before .shared-slice-known3 .given p)) in
-    let low = table-digit (a .digits .now) (getD (a .text .now) (p + 1) 0) (c .before .before .before .before .before .before .before .before .before .before .before .before .pre .0) (omega (arith, c .before .before .before .shared-slice-known5 .given (p + 1))) in
-    let byte = 16 * getD (a .digits .now) (getD (a .text .now) p 0) 0 + getD (a .digits .now) (getD (a .text .now) (p + 1) 0) 0 in (
-      omega arith,
-      filled-more _ (at .i) (at .bytes) _ _ (omega arith) (omega (arith, high, low)) (at .inv .1),
-      sum-more (at .i) (λ k. byteAt (a .text .now) (a .from + 2 * k)) (at .sum) byte _ (at .inv .2) (omega (arith, high, low)) (omega (arith, c .wrapping-add-u8 .ensures)),
-      digits-more (a .text .now) (a .from) (at .i) (at .inv .3) (omega (arith, high)) (omega (arith, low)),
-    )
+loop-again c =
+    let a = (let s : tie.Start Inv-loop μ-loop = search in s .args) in
+    let turn = (let h : tie.At-loop Inv-loop μ-loop = search in h .loop) in
+    let tells : (k : ℕ) → getD (a .digits .now) (getD (a .text .now) k 0) 0 ≡ digit (getD (a .text .now) k 0) = search table-tells in
+    let high = tells (a .from + 2 * turn .i) in
+    let low = tells (a .from + 2 * turn .i + 1) in
+    (omega arith, decoding-more _ _ _ (turn .inv .1) _ _ (omega arith) (omega arith) (omega arith) (omega arith) (omega arith))
 
 cast-result : tie.Need-cast-result Inv-loop μ-loop
 cast-result c = search needs
 
 same-length-3 : tie.Need-same-length-3 Inv-loop μ-loop
-same-length-3 c = c .before .loop .inv .1 .size
+same-length-3 c = search needs
 
 returns-3 : tie.Need-returns-3 Inv-loop μ-loop
-returns-3 c = let a = c .before .before .before .before .before .args in let at = c .before .loop in
-    let e : at .i ≡ a .n = omega arith in
-    let f : ℕ → ℕ = λ k. byteAt (a .text .now) (a .from + 2 * k) in (
-      at .inv .2 ∙ ap (λ m. sumAll (bytesFrom (a .text .now) (a .from) m) % 256) e
-          ∙ sym (sum-good (a .text .now) (a .from) (a .n) (c .before .before .before .before .before .pre .1) (λ k h. at .inv .3 k (omega arith))),
-      λ h. ap (take (a .n)) (filled-all f (a .n) (at .i) (at .bytes) _ e (c .before .before .before .before .before .pre .2) (at .inv .1)) ∙ take-at _ _ (a .n) (length-tabulate (a .n) f),
-    )
+returns-3 c =
+    let a = (let s : tie.Start Inv-loop μ-loop = search in s .args) in
+    let turn = (let h : tie.At-loop Inv-loop μ-loop = search in h .loop) in
+    decoding-all _ _ _ (turn .inv .1) (a .n) (omega arith) (omega arith) (omega arith)
 
 pub decode-spec : {M : Type 1} → statement M
 decode-spec =

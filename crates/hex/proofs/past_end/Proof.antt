@@ -1,17 +1,22 @@
 -- `hex::past_end` meets its contract: what stands at the place decides the definition, one answer for each way.
 -- Assumes nothing.
 use Prim.Native.Nat.{_+_}
+use Rattle.hex.specs.Lines.{LF, CR}
 use Rattle.hex.proofs.Steps.{past-over, past-here}
 use native.Mathlib.Omega.{arith}
 use borrow.Author.Tests.{eq-eqb, ne-eqb}
+use lib.Dec.{eqb}
 use lib.ListN.{getD, List·getD-eq-default}
-use mathlib.Core.Path.{sym, _∙_}
+use mathlib.Core.Bool.{true, false}
+use mathlib.Core.Path.{_≡_, sym, _∙_}
 use borrow.Author.Needs.{needs}
 use Rattle.hex.proofs.past_end.Statement.{statement}
 use Rattle.hex.proofs.past_end.Tie as tie
 
 returns : tie.Need-returns
-returns c = let a = c .before .args in sym (past-over (a .text .now) (a .place) (omega arith))
+returns c =
+    let a = (let s : tie.Start = search in s .args) in
+    sym (past-over (a .text .now) (a .place) (omega arith))
 
 shared-slice-read-if2 : tie.Need-shared-slice-read-if2
 shared-slice-read-if2 c = search needs
@@ -20,24 +25,31 @@ add-result : tie.Need-add-result
 add-result c = search needs
 
 returns-2 : tie.Need-returns-2
-returns-2 c = let a = c .before .before .before .args in
-    sym (past-here (a .text .now) (a .place) (omega arith) ∙ simp (eq-eqb (getD (a .text .now) (a .place) 0) 10 (c .if2 .taken)))
+returns-2 c =
+    let a = (let s : tie.Start = search in s .args) in
+    let lf : eqb (getD (a .text .now) (a .place) 0) LF ≡ true = omega (arith, eq-eqb) in
+    sym (past-here (a .text .now) (a .place) (omega arith) ∙ simp lf)
 
 shared-slice-read-if3 : tie.Need-shared-slice-read-if3
 shared-slice-read-if3 c = search needs
 
 returns-3 : tie.Need-returns-3
-returns-3 c = let a = c .before .before .before .before .before .args in
-    sym (past-here (a .text .now) (a .place) (omega arith)
-    ∙ simp (ne-eqb (getD (a .text .now) (a .place) 0) 10 (c .before .before .if2 .left), ne-eqb (getD (a .text .now) (a .place) 0) 13 (c .if3 .taken)))
+returns-3 c =
+    let a = (let s : tie.Start = search in s .args) in
+    let lf : eqb (getD (a .text .now) (a .place) 0) LF ≡ false = omega (arith, ne-eqb) in
+    let cr : eqb (getD (a .text .now) (a .place) 0) CR ≡ false = omega (arith, ne-eqb) in
+    sym (past-here (a .text .now) (a .place) (omega arith) ∙ simp (lf, cr))
 
 add-if4 : tie.Need-add-if4
 add-if4 c = search needs
 
 returns-4 : tie.Need-returns-4
-returns-4 c = let a = c .before .before .before .before .before .before .args in
-    sym (past-here (a .text .now) (a .place) (omega arith)
-    ∙ simp (ne-eqb (getD (a .text .now) (a .place) 0) 10 (c .before .before .before .if2 .left), eq-eqb (getD (a .text .now) (a .place) 0) 13 (c .before .if3 .left), List·getD-eq-default (a .text .now) 0 {n = a .place + 1} (omega arith)))
+returns-4 c =
+    let a = (let s : tie.Start = search in s .args) in
+    let lf : eqb (getD (a .text .now) (a .place) 0) LF ≡ false = omega (arith, ne-eqb) in
+    let cr : eqb (getD (a .text .now) (a .place) 0) CR ≡ true = omega (arith, eq-eqb) in
+    let over = List·getD-eq-default (a .text .now) 0 {n = a .place + 1} (omega arith) in
+    sym (past-here (a .text .now) (a .place) (omega arith) ∙ simp (lf, cr, over))
 
 add-if5 : tie.Need-add-if5
 add-if5 c = search needs
@@ -49,14 +61,20 @@ add-result-2 : tie.Need-add-result-2
 add-result-2 c = search needs
 
 returns-5 : tie.Need-returns-5
-returns-5 c = let a = c .before .before .before .before .before .before .before .before .args in
-    sym (past-here (a .text .now) (a .place) (omega arith)
-    ∙ simp (ne-eqb (getD (a .text .now) (a .place) 0) 10 (c .before .before .before .before .before .if2 .left), eq-eqb (getD (a .text .now) (a .place) 0) 13 (c .before .before .before .if3 .left), eq-eqb (getD (a .text .now) (a .place + 1) 0) 10 (omega arith)))
+returns-5 c =
+    let a = (let s : tie.Start = search in s .args) in
+    let lf : eqb (getD (a .text .now) (a .place) 0) LF ≡ false = omega (arith, ne-eqb) in
+    let cr : eqb (getD (a .text .now) (a .place) 0) CR ≡ true = omega (arith, eq-eqb) in
+    let then : eqb (getD (a .text .now) (a .place + 1) 0) LF ≡ true = omega (arith, eq-eqb) in
+    sym (past-here (a .text .now) (a .place) (omega arith) ∙ simp (lf, cr, then))
 
 returns-6 : tie.Need-returns-6
-returns-6 c = let a = c .before .before .before .before .before .before .before .before .args in
-    sym (past-here (a .text .now) (a .place) (omega arith)
-    ∙ simp (ne-eqb (getD (a .text .now) (a .place) 0) 10 (c .before .before .before .before .before .if2 .left), eq-eqb (getD (a .text .now) (a .place) 0) 13 (c .before .before .before .if3 .left), ne-eqb (getD (a .text .now) (a .place + 1) 0) 10 (λ e. omega arith)))
+returns-6 c =
+    let a = (let s : tie.Start = search in s .args) in
+    let lf : eqb (getD (a .text .now) (a .place) 0) LF ≡ false = omega (arith, ne-eqb) in
+    let cr : eqb (getD (a .text .now) (a .place) 0) CR ≡ true = omega (arith, eq-eqb) in
+    let then : eqb (getD (a .text .now) (a .place + 1) 0) LF ≡ false = omega (arith, ne-eqb) in
+    sym (past-here (a .text .now) (a .place) (omega arith) ∙ simp (lf, cr, then))
 
 pub past-end-spec : {M : Type 1} → statement M
 past-end-spec =

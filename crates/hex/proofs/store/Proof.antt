@@ -1,31 +1,30 @@
 -- `hex::store` meets its contract: it is known of the scratch passed whether none was given, and they hold the record's data; the measure is what is left of it.
 -- Assumes nothing.
+use mir.Syntax.{w8}
+use borrow.Table.Referent.{fInt}
+use borrow.Rule.Slice.Know.{Fit}
 use borrow.Author.Needs.{needs}
-use Rattle.hex.proofs.Steps.{none-ends, none-more, stored-none, stored-more, stored-past}
-use Rattle.hex.specs.Steps.{storedAt}
-use Rattle.laws.proofs.Lists.{is-tabulate}
+use Rattle.hex.proofs.Steps.{Storing, storing-none, storing-more, storing-all}
+use Rattle.laws.specs.Pick.{pick}
 use native.Mathlib.Omega.{arith}
 use borrow.Author.Tests.{lt-ltb, le-ltb}
-use lib.ListN.{length, getD, length-set}
-use lib.Dec.{ltb, eqb}
-use Rattle.laws.specs.Lists.{firstOf}
+use lib.ListN.{getD}
+use lib.Dec.{ltb}
 use mathlib.Core.Logic.{⊎-elim}
-use mathlib.Core.Bool.{Bool}
+use mathlib.Core.Bool.{false}
 use mathlib.Core.Path.{_≡_, refl, sym, _∙_, ap}
-use Prim.Native.Nat.{ℕ, _≤_, _-_, _+_}
+use Prim.Native.Nat.{_≤_, _-_, _+_}
 use Rattle.hex.proofs.store.Statement.{statement}
 use Rattle.hex.proofs.store.Tie as tie
 
 abbrev Inv-loop : tie.InvT-loop
-Inv-loop bytes n address scratch₀ fresh₀ i₀ scratch fresh i = (i ≤ n) × (length scratch ≡ length scratch₀) × (fresh ≡ eqb (firstOf i (λ k. ltb (getD scratch₀ (address + k) 0) 256)) i)
-    × ((a : ℕ) → getD scratch a 0 ≡ storedAt bytes address i scratch₀ a)
+Inv-loop bytes n address scratch₀ fresh₀ i₀ scratch fresh i = (i ≤ n) × Storing bytes address scratch₀ i scratch fresh
 
 abbrev μ-loop : tie.MeasureT-loop
 μ-loop bytes n address scratch₀ fresh₀ i₀ scratch fresh i = n - i
 
 loop-holds : tie.Need-loop-holds Inv-loop μ-loop
-unfolding firstOf
-loop-holds c = let a = c .args in (omega arith, refl, refl, stored-none (a .bytes .now) (a .address) 0 (a .scratch .now))
+loop-holds c = (omega arith, storing-none _ _ _)
 
 add-if1 : tie.Need-add-if1 Inv-loop μ-loop
 add-if1 c = search needs
@@ -43,7 +42,11 @@ shared-slice-read-scratch : tie.Need-shared-slice-read-scratch Inv-loop μ-loop
 shared-slice-read-scratch c = search needs
 
 cast-scratch : tie.Need-cast-scratch Inv-loop μ-loop
-cast-scratch c = omega (arith, c .shared-slice-known .given (4 + c .before .before .before .before .loop .i))
+cast-scratch c =
+    let a = (let s : tie.Start Inv-loop μ-loop = search in s .args) in
+    let turn = (let h : tie.At-loop Inv-loop μ-loop = search in h .loop) in
+    let small : Fit (fInt w8) 0 (a .bytes .now) = search in
+    omega (arith, small (4 + turn .i))
 
 add-scratch-2 : tie.Need-add-scratch-2 Inv-loop μ-loop
 add-scratch-2 c = search needs
@@ -61,29 +64,26 @@ loop-less : tie.Need-loop-less Inv-loop μ-loop
 loop-less c = search needs
 
 loop-again : tie.Need-loop-again Inv-loop μ-loop
-loop-again c = let a = c .before .before .before .before .before .args in let at = c .before .before .before .before .loop in
-    let test : ℕ → Bool = λ k. ltb (getD (a .scratch .now) (a .address + k) 0) 256 in
-    let held = getD (at .scratch) (a .address + at .i) 0 in
-    let here = sym (at .inv .3 (a .address + at .i) ∙ stored-past (a .bytes .now) (a .address) (at .i) (a .scratch .now) _ (omega arith)) in (
-      omega arith,
-      length-set (at .scratch) (a .address + at .i) _ ∙ at .inv .1,
-      ⊎-elim
-          (λ w. w .1 ∙ none-ends (at .i) test (ap (λ x. ltb x 256) here ∙ lt-ltb held 256 (omega (arith, w .0 .taken))))
-          (λ w. w .1 ∙ at .inv .2 ∙ none-more (at .i) test (ap (λ x. ltb x 256) here ∙ le-ltb held 256 (omega (arith, w .0 .left))))
-          (c .before .if1 .came),
-      stored-more (a .bytes .now) (a .address) (at .i) (a .scratch .now) (at .scratch) _ (omega arith) refl (at .inv .3),
-    )
+loop-again c =
+    let a = (let s : tie.Start Inv-loop μ-loop = search in s .args) in
+    let turn = (let h : tie.At-loop Inv-loop μ-loop = search in h .loop) in
+    let joined = (let j : tie.Joined1 Inv-loop μ-loop = search in j .if1) in
+    let held = getD (turn .scratch) (a .address + turn .i) 0 in
+    let told : joined .fresh ≡ pick (ltb held 256) false (turn .fresh) =
+    ⊎-elim
+    (λ w. w .1 ∙ sym (ap (λ b. pick b false (turn .fresh)) (lt-ltb held 256 (omega (arith, w .0 .taken)))))
+    (λ w. w .1 ∙ sym (ap (λ b. pick b false (turn .fresh)) (le-ltb held 256 (omega (arith, w .0 .left)))))
+    (joined .came) in
+    (omega arith, storing-more _ _ _ (turn .inv .1) _ _ (omega arith) refl told)
 
 same-length : tie.Need-same-length Inv-loop μ-loop
-same-length c = c .before .loop .inv .1
+same-length c = search needs
 
 returns : tie.Need-returns Inv-loop μ-loop
-returns c = let a = c .before .before .args in let at = c .before .loop in
-    let e : at .i ≡ a .n = omega arith in (
-      at .inv .2 ∙ ap (λ m. eqb (firstOf m (λ k. ltb (getD (a .scratch .now) (a .address + k) 0) 256)) m) e,
-      λ t. is-tabulate 0 8192 (storedAt (a .bytes .now) (a .address) (a .n) (a .scratch .now)) (at .scratch) (omega arith)
-          (λ k h. at .inv .3 k ∙ ap (λ m. storedAt (a .bytes .now) (a .address) m (a .scratch .now) k) e),
-    )
+returns c =
+    let a = (let s : tie.Start Inv-loop μ-loop = search in s .args) in
+    let turn = (let h : tie.At-loop Inv-loop μ-loop = search in h .loop) in
+    storing-all _ _ _ (turn .inv .1) (a .n) (omega arith) (omega arith)
 
 pub store-spec : {M : Type 1} → statement M
 store-spec =
