@@ -23,10 +23,10 @@ typedef struct face {
     void (*dac_write_low)(dirgeflint_dac *, uint8_t);
     void (*dac_write_high)(dirgeflint_dac *, uint8_t);
     dirgeflint_answer (*dac_play)(dirgeflint_dac *, uint32_t, uint8_t *, size_t);
-    dirgeflint_port (*port_fresh)(void);
-    dirgeflint_port (*port_write_address)(dirgeflint_port, uint8_t);
-    dirgeflint_port (*port_write_attribute)(dirgeflint_port, uint8_t);
-    dirgeflint_port (*port_write_character)(dirgeflint_port, uint8_t);
+    void (*port_reset)(dirgeflint_port *);
+    void (*port_write_address)(dirgeflint_port *, uint8_t);
+    void (*port_write_attribute)(dirgeflint_port *, uint8_t);
+    void (*port_write_character)(dirgeflint_port *, uint8_t);
     dirgeflint_answer (*paint)(const uint16_t *, size_t, const uint16_t *, size_t, dirgeflint_settings, uint32_t,
                                uint32_t, uint32_t, uint8_t *, size_t);
     dirgeflint_answer (*hex_read)(const uint8_t *, size_t, uint8_t *, size_t);
@@ -38,13 +38,13 @@ typedef struct face {
 static face sides[2] = {
     { dirgeflint_pulse_level,
       dirgeflint_dac_reset, dirgeflint_dac_write_low, dirgeflint_dac_write_high, dirgeflint_dac_play,
-      dirgeflint_port_fresh, dirgeflint_port_write_address, dirgeflint_port_write_attribute,
+      dirgeflint_port_reset, dirgeflint_port_write_address, dirgeflint_port_write_attribute,
       dirgeflint_port_write_character,
       dirgeflint_paint,
       dirgeflint_hex_read, dirgeflint_hex_write, dirgeflint_image_to_font },
     { fast_pulse_level,
       fast_dac_reset, fast_dac_write_low, fast_dac_write_high, fast_dac_play,
-      fast_port_fresh, fast_port_write_address, fast_port_write_attribute, fast_port_write_character,
+      fast_port_reset, fast_port_write_address, fast_port_write_attribute, fast_port_write_character,
       fast_paint,
       fast_hex_read, fast_hex_write, fast_image_to_font },
 };
@@ -97,10 +97,14 @@ static void dac_writes(const face *f, int size)
 
 static void port(const face *f, int size)
 {
-    dirgeflint_port all = f->port_write_address(f->port_fresh(), 64);
+    static dirgeflint_port all;
     (void)size;
-    for (uint8_t i = 0; i < 64; i++)
-        all = f->port_write_character(f->port_write_attribute(all, i), i);
+    f->port_reset(&all);
+    f->port_write_address(&all, 64);
+    for (uint8_t i = 0; i < 64; i++) {
+        f->port_write_attribute(&all, i);
+        f->port_write_character(&all, i);
+    }
     seen = all.words[63];
 }
 

@@ -85,44 +85,38 @@ static dirgeflint_answer fast_dac_play(dirgeflint_dac *dac, uint32_t clocks, uin
     return fast_answer(0, 0, 0);
 }
 
-static dirgeflint_port fast_port_fresh(void)
+static void fast_port_reset(dirgeflint_port *port)
 {
-    dirgeflint_port port;
-    memset(&port, 0, sizeof port);
-    return port;
+    memset(port, 0, sizeof *port);
 }
 
-static dirgeflint_port fast_cut(dirgeflint_port port)
+static void fast_cut(dirgeflint_port *port)
 {
-    port.address &= 63;
-    port.attribute &= 15;
-    port.character &= 63;
+    port->address &= 63;
+    port->attribute &= 15;
+    port->character &= 63;
     for (int i = 0; i < 64; i++)
-        port.words[i] &= 1023;
-    return port;
+        port->words[i] &= 1023;
 }
 
-static dirgeflint_port fast_port_write_address(dirgeflint_port port, uint8_t byte)
+static void fast_port_write_address(dirgeflint_port *port, uint8_t byte)
 {
-    port = fast_cut(port);
-    port.address = byte & 63;
-    return port;
+    fast_cut(port);
+    port->address = byte & 63;
 }
 
-static dirgeflint_port fast_port_write_attribute(dirgeflint_port port, uint8_t byte)
+static void fast_port_write_attribute(dirgeflint_port *port, uint8_t byte)
 {
-    port = fast_cut(port);
-    port.attribute = byte & 15;
-    return port;
+    fast_cut(port);
+    port->attribute = byte & 15;
 }
 
-static dirgeflint_port fast_port_write_character(dirgeflint_port port, uint8_t byte)
+static void fast_port_write_character(dirgeflint_port *port, uint8_t byte)
 {
-    port = fast_cut(port);
-    port.character = byte & 63;
-    port.words[port.address] = (uint16_t)(port.character << 4 | port.attribute);
-    port.address = (port.address + 1) & 63;
-    return port;
+    fast_cut(port);
+    port->character = byte & 63;
+    port->words[port->address] = (uint16_t)(port->character << 4 | port->attribute);
+    port->address = (port->address + 1) & 63;
 }
 
 static bool fast_is_font(const uint16_t *font, size_t font_length)

@@ -4,7 +4,7 @@
  *
  * A request is a byte that names the call, then its arguments in the order of the header: a number in as many bytes as
  * it has, low byte first; a record field by field; a slice as a 32-bit count of elements and the elements. The reply is
- * a byte of health, then the answer if the call has one, the record if one was lent or is returned, and the elements of
+ * a byte of health, then the answer if the call has one, the record if one was lent, and the elements of
  * the slice lent for writing. Health 0: nothing outside the memory lent was written, and what was lent for reading is
  * as it was. Replies are held back until the request '.', which has no reply of its own, so that many calls can be
  * under way.
@@ -184,23 +184,39 @@ static void dac_play(void)
     give(start(&levels), levels.size);
 }
 
-static void give_port(dirgeflint_port port)
+static dirgeflint_port *take_port(void)
 {
-    give_health(true);
-    give(&port.address, 1);
-    give(&port.attribute, 1);
-    give(&port.character, 1);
-    give(port.words, sizeof port.words);
+    dirgeflint_port *port;
+    make(&record, sizeof *port);
+    port = start(&record);
+    port->address = take_byte();
+    port->attribute = take_byte();
+    port->character = take_byte();
+    take(port->words, sizeof port->words);
+    return port;
 }
 
-static void port_write(dirgeflint_port (*write)(dirgeflint_port, uint8_t))
+static void give_port(const dirgeflint_port *port)
 {
-    dirgeflint_port port;
-    port.address = take_byte();
-    port.attribute = take_byte();
-    port.character = take_byte();
-    take(port.words, sizeof port.words);
-    give_port(write(port, take_byte()));
+    uint8_t registers[3] = { port->address, port->attribute, port->character };
+    give(registers, sizeof registers);
+    give(port->words, sizeof port->words);
+}
+
+static void port_reset(void)
+{
+    dirgeflint_port *port = take_port();
+    dirgeflint_port_reset(port);
+    give_health(margins_stand(&record));
+    give_port(port);
+}
+
+static void port_write(void (*write)(dirgeflint_port *, uint8_t))
+{
+    dirgeflint_port *port = take_port();
+    write(port, take_byte());
+    give_health(margins_stand(&record));
+    give_port(port);
 }
 
 static area words, rows, dots;
@@ -272,7 +288,7 @@ int main(void)
         case 'l': dac_write(dirgeflint_dac_write_low); break;
         case 'h': dac_write(dirgeflint_dac_write_high); break;
         case 'y': dac_play(); break;
-        case 'f': give_port(dirgeflint_port_fresh()); break;
+        case 'z': port_reset(); break;
         case 'a': port_write(dirgeflint_port_write_address); break;
         case 't': port_write(dirgeflint_port_write_attribute); break;
         case 'c': port_write(dirgeflint_port_write_character); break;

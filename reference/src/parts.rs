@@ -72,10 +72,10 @@ pub trait Dac {
 }
 
 pub trait Port {
-    fn fresh(&self) -> PortRecord;
-    fn write_address(&self, port: PortRecord, byte: u8) -> PortRecord;
-    fn write_attribute(&self, port: PortRecord, byte: u8) -> PortRecord;
-    fn write_character(&self, port: PortRecord, byte: u8) -> PortRecord;
+    fn reset(&self, port: &mut PortRecord);
+    fn write_address(&self, port: &mut PortRecord, byte: u8);
+    fn write_attribute(&self, port: &mut PortRecord, byte: u8);
+    fn write_character(&self, port: &mut PortRecord, byte: u8);
 }
 
 /// Everything a painter is given but the room for the dots.

@@ -91,21 +91,21 @@ static void dac_play(void)
 }
 
 static dirgeflint_port port;
-static void port_fresh(void)
+static void port_reset(void)
 {
-    port = dirgeflint_port_fresh();
+    dirgeflint_port_reset(&port);
 }
 static void port_write_address(void)
 {
-    port = dirgeflint_port_write_address(port, 0xff);
+    dirgeflint_port_write_address(&port, 0xff);
 }
 static void port_write_attribute(void)
 {
-    port = dirgeflint_port_write_attribute(port, 0xff);
+    dirgeflint_port_write_attribute(&port, 0xff);
 }
 static void port_write_character(void)
 {
-    port = dirgeflint_port_write_character(port, 0xff);
+    dirgeflint_port_write_character(&port, 0xff);
 }
 
 static uint16_t font[1116];
@@ -166,8 +166,8 @@ int main(void)
     report("dirgeflint_dac_play");
     measure(dac_reset);
     report("dirgeflint_dac_reset");
-    measure(port_fresh);
-    report("dirgeflint_port_fresh");
+    measure(port_reset);
+    report("dirgeflint_port_reset");
     measure(port_write_address);
     report("dirgeflint_port_write_address");
     measure(port_write_attribute);

@@ -4,12 +4,13 @@ use mathlib.Core.Path.{refl, sym, ap, _∙_}
 use Rattle.laws.proofs.Determined.{Determines, both-say}
 use Rattle.answer.proofs.Unique.{one-answer}
 use Rattle.dac.specs.declared.Dac.{Dac}
+use Rattle.port.specs.declared.Port.{Port}
 use Rattle.dirgeflint.proofs.dac_face.dirgeflint_dac_reset as dac-reset
 use Rattle.dirgeflint.proofs.dac_face.dirgeflint_dac_write_low as dac-write-low
 use Rattle.dirgeflint.proofs.dac_face.dirgeflint_dac_write_high as dac-write-high
 use Rattle.dirgeflint.proofs.dac_face.dirgeflint_dac_play as dac-play
 use Rattle.dirgeflint.proofs.display_face.dirgeflint_paint as paint
-use Rattle.dirgeflint.proofs.port_face.dirgeflint_port_fresh as port-fresh
+use Rattle.dirgeflint.proofs.port_face.dirgeflint_port_reset as port-reset
 use Rattle.dirgeflint.proofs.port_face.dirgeflint_port_write_address as port-write-address
 use Rattle.dirgeflint.proofs.port_face.dirgeflint_port_write_attribute as port-write-attribute
 use Rattle.dirgeflint.proofs.port_face.dirgeflint_port_write_character as port-write-character
@@ -35,18 +36,18 @@ pub dirgeflint-dac-play-unique : Determines dac-play.ended (λ w. dac-play.claus
 dirgeflint-dac-play-unique w κs a g g′ r r′ ws ws′ =
     both-say w (λ p q. (one-answer r r′ (p .0 ∙ sym (q .0)), λ i. ((p .1 ∙ sym (q .1)) i, (tt, ((p .2 ∙ sym (q .2)) i, tt)))))
 
--- the write port comes back
-pub dirgeflint-port-fresh-unique : Determines port-fresh.ended (λ w. port-fresh.clauses (w .𝓤) (w .H) (w .𝓖 .A) (w .𝓜 .mem) (w .𝓡 .run))
-dirgeflint-port-fresh-unique w κs a g g′ r r′ ws ws′ = both-say w (λ p q. (p ∙ sym q, refl))
+-- the write port that the host lent
+pub dirgeflint-port-reset-unique : Determines port-reset.ended (λ w. port-reset.clauses (w .𝓤) (w .H) (w .𝓖 .A) (w .𝓜 .mem) (w .𝓡 .run))
+dirgeflint-port-reset-unique w κs a g g′ r r′ ws ws′ = both-say w (λ p q. (refl, ap (λ (d : Port). (d, tt)) (p ∙ sym q)))
 
 pub dirgeflint-port-write-address-unique : Determines port-write-address.ended (λ w. port-write-address.clauses (w .𝓤) (w .H) (w .𝓖 .A) (w .𝓜 .mem) (w .𝓡 .run))
-dirgeflint-port-write-address-unique w κs a g g′ r r′ ws ws′ = both-say w (λ p q. (p ∙ sym q, refl))
+dirgeflint-port-write-address-unique w κs a g g′ r r′ ws ws′ = both-say w (λ p q. (refl, ap (λ (d : Port). (d, (tt, tt))) (p ∙ sym q)))
 
 pub dirgeflint-port-write-attribute-unique : Determines port-write-attribute.ended (λ w. port-write-attribute.clauses (w .𝓤) (w .H) (w .𝓖 .A) (w .𝓜 .mem) (w .𝓡 .run))
-dirgeflint-port-write-attribute-unique w κs a g g′ r r′ ws ws′ = both-say w (λ p q. (p ∙ sym q, refl))
+dirgeflint-port-write-attribute-unique w κs a g g′ r r′ ws ws′ = both-say w (λ p q. (refl, ap (λ (d : Port). (d, (tt, tt))) (p ∙ sym q)))
 
 pub dirgeflint-port-write-character-unique : Determines port-write-character.ended (λ w. port-write-character.clauses (w .𝓤) (w .H) (w .𝓖 .A) (w .𝓜 .mem) (w .𝓡 .run))
-dirgeflint-port-write-character-unique w κs a g g′ r r′ ws ws′ = both-say w (λ p q. (p ∙ sym q, refl))
+dirgeflint-port-write-character-unique w κs a g g′ r r′ ws ws′ = both-say w (λ p q. (refl, ap (λ (d : Port). (d, (tt, tt))) (p ∙ sym q)))
 
 -- the dots that the host lent
 pub dirgeflint-paint-unique : Determines paint.ended (λ w. paint.clauses (w .𝓤) (w .H) (w .𝓖 .A) (w .𝓜 .mem) (w .𝓡 .run))

@@ -1,32 +1,36 @@
-// The write port, by value in and out. Every call leaves kept bits only, whatever was handed over.
+// The write port. The host has the one port and lends it to every call, which updates it there, as with the DAC's running record (dac_face).
+// Every call leaves kept bits only, whatever was there before.
 ghost use mathlib.Core.Path.{_≡_};
 ghost use Rattle.port.specs.Port.{freshPort, addressWritten, attributeWritten, characterWritten};
 use port::Port;
 
 #[no_mangle]
-pub extern "C" fn dirgeflint_port_fresh() -> Port
-    ensures { λ r. ⌜ r ≡ freshPort ⌝ }
+pub extern "C" fn dirgeflint_port_reset(port: &mut Port)
+    ensures { λ _. ⌜ now (port .exit) ≡ freshPort ⌝ }
 {
-    port::fresh()
+    *port = port::fresh();
 }
 
 #[no_mangle]
-pub extern "C" fn dirgeflint_port_write_address(before: Port, byte: u8) -> Port
-    ensures { λ r. ⌜ r ≡ addressWritten before byte ⌝ }
+pub extern "C" fn dirgeflint_port_write_address(port: &mut Port, byte: u8)
+    ensures { λ _. ⌜ now (port .exit) ≡ addressWritten (now (port .entry)) byte ⌝ }
 {
-    port::write_address(before, byte)
+    let before = *port;
+    *port = port::write_address(before, byte);
 }
 
 #[no_mangle]
-pub extern "C" fn dirgeflint_port_write_attribute(before: Port, byte: u8) -> Port
-    ensures { λ r. ⌜ r ≡ attributeWritten before byte ⌝ }
+pub extern "C" fn dirgeflint_port_write_attribute(port: &mut Port, byte: u8)
+    ensures { λ _. ⌜ now (port .exit) ≡ attributeWritten (now (port .entry)) byte ⌝ }
 {
-    port::write_attribute(before, byte)
+    let before = *port;
+    *port = port::write_attribute(before, byte);
 }
 
 #[no_mangle]
-pub extern "C" fn dirgeflint_port_write_character(before: Port, byte: u8) -> Port
-    ensures { λ r. ⌜ r ≡ characterWritten before byte ⌝ }
+pub extern "C" fn dirgeflint_port_write_character(port: &mut Port, byte: u8)
+    ensures { λ _. ⌜ now (port .exit) ≡ characterWritten (now (port .entry)) byte ⌝ }
 {
-    port::write_character(before, byte)
+    let before = *port;
+    *port = port::write_character(before, byte);
 }

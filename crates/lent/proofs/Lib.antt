@@ -1,5 +1,4 @@
--- The walks, one for each shape of a function over a lent record, and the record that they share.
+-- The walks, one for each shape of a function over a lent record: a reset and a write over any, a play over the DAC's.
 pub mod Play
-pub mod Record
 pub mod Reset
 pub mod Write

@@ -1,4 +1,4 @@
--- A play over the running record that a host lends: as a write (Write.antt), with the clocks asked for, the bytes lent, which go on to the step, and
+-- A play over the DAC's running record that a host lends: as a write (Write.antt), with the clocks asked for, the bytes lent, which go on to the step, and
 -- the step's case, which a second function tells in numbers.
 --     fn f(d: &mut Dac, clocks: u32, s: &mut [u8]) -> Answer { let before = *d; let played = g(before, clocks, s); *d = played.after; let case = played.answer; h(case) }
 -- Assumes nothing.
@@ -20,7 +20,7 @@ use types.Run.{look, look-raw, addr, fld, init, store-raw, forget, stop, hop, fr
 use types.Part.{agg, whole, sub, look-in}
 use types.SemTy.{Body}
 use sound.WpLaws.{FmC, fmOf, WpFn-mono}
-use denote.RattleType.{owns}
+use denote.RattleType.{RattleType, owns}
 use denote.Laws.{Is, shows}
 use denote.Memory.{mem, pointee}
 use denote.Plain.{uint-vals, uint-tells, uint-makes}
@@ -51,7 +51,16 @@ use Rattle.dac.proofs.Played as E
 use Rattle.dac.proofs.Played.Laws as E′
 use Rattle.answer.proofs.Answer as P
 use Rattle.answer.proofs.Answer.Laws as P′
-use Rattle.lent.proofs.Record.{R, held, heldAs}
+
+-- the record as a type of the logic, and as the machine's value, alone and as a list
+abbrev R : RattleType
+R = T.the-row
+
+abbrev held : Dac → Val
+held d = LL.val T.the-type T′.the-laws d
+
+abbrev heldAs : Dac → List Val
+heldAs d = LL.vals T.the-type T′.the-laws d
 
 abbrev play-lent : Ended
 play-lent = record {

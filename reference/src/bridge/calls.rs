@@ -26,7 +26,7 @@ impl Library {
 impl Dac for Library {
     fn reset(&self, record: &mut RunningRecord) {
         let request = Message::request(b'r').dac(record);
-        self.dac_call(request, record, |record| Fast.reset(record));
+        self.dac_call(request, record, |record| Dac::reset(&Fast, record));
     }
 
     fn write_low(&self, record: &mut RunningRecord, byte: u8) {
@@ -53,24 +53,36 @@ impl Dac for Library {
     }
 }
 
+impl Library {
+    fn port_call(&self, request: Message, port: &mut PortRecord, predict: impl FnOnce(&mut PortRecord)) {
+        let mut predicted = *port;
+        let mut reply = self.exchange(&request, || {
+            predict(&mut predicted);
+            Message::reply().port(&predicted)
+        });
+        *port = reply.take_port();
+    }
+}
+
 impl Port for Library {
-    fn fresh(&self) -> PortRecord {
-        self.exchange(&Message::request(b'f'), || Message::reply().port(&Fast.fresh())).take_port()
+    fn reset(&self, port: &mut PortRecord) {
+        let request = Message::request(b'z').port(port);
+        self.port_call(request, port, |port| Port::reset(&Fast, port));
     }
 
-    fn write_address(&self, port: PortRecord, byte: u8) -> PortRecord {
-        let request = Message::request(b'a').port(&port).byte(byte);
-        self.exchange(&request, || Message::reply().port(&Fast.write_address(port, byte))).take_port()
+    fn write_address(&self, port: &mut PortRecord, byte: u8) {
+        let request = Message::request(b'a').port(port).byte(byte);
+        self.port_call(request, port, |port| Fast.write_address(port, byte));
     }
 
-    fn write_attribute(&self, port: PortRecord, byte: u8) -> PortRecord {
-        let request = Message::request(b't').port(&port).byte(byte);
-        self.exchange(&request, || Message::reply().port(&Fast.write_attribute(port, byte))).take_port()
+    fn write_attribute(&self, port: &mut PortRecord, byte: u8) {
+        let request = Message::request(b't').port(port).byte(byte);
+        self.port_call(request, port, |port| Fast.write_attribute(port, byte));
     }
 
-    fn write_character(&self, port: PortRecord, byte: u8) -> PortRecord {
-        let request = Message::request(b'c').port(&port).byte(byte);
-        self.exchange(&request, || Message::reply().port(&Fast.write_character(port, byte))).take_port()
+    fn write_character(&self, port: &mut PortRecord, byte: u8) {
+        let request = Message::request(b'c').port(port).byte(byte);
+        self.port_call(request, port, |port| Fast.write_character(port, byte));
     }
 }
 

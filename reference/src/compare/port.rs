@@ -1,4 +1,4 @@
-//! The write port: sequences of writes on fresh and made-up records, the whole record compared after each.
+//! The write port: sequences of resets and writes on made-up records, the whole record compared after each.
 
 use super::{run as drive, CaseResult, Difference, Part, Plan};
 use crate::model::Model;
@@ -9,13 +9,15 @@ const SEQUENCES: u64 = 50_000;
 
 #[derive(Clone, Copy, Debug)]
 enum Call {
+    Reset,
     Address(u8),
     Attribute(u8),
     Character(u8),
 }
 
-fn apply(side: &dyn Port, port: PortRecord, call: Call) -> PortRecord {
+fn apply(side: &dyn Port, port: &mut PortRecord, call: Call) {
     match call {
+        Call::Reset => side.reset(port),
         Call::Address(byte) => side.write_address(port, byte),
         Call::Attribute(byte) => side.write_attribute(port, byte),
         Call::Character(byte) => side.write_character(port, byte),
@@ -37,45 +39,38 @@ fn made_up(random: &mut Random) -> PortRecord {
 }
 
 fn random_call(random: &mut Random) -> Call {
-    match random.below(8) {
-        0 => Call::Address(random.byte()),
-        1 => Call::Address(random.pick(&[0, 62, 63, 64, 127, 191, 255])),
-        2 | 3 => Call::Attribute(random.byte()),
+    match random.below(32) {
+        0 => Call::Reset,
+        1..=4 => Call::Address(random.byte()),
+        5..=8 => Call::Address(random.pick(&[0, 62, 63, 64, 127, 191, 255])),
+        9..=15 => Call::Attribute(random.byte()),
         _ => Call::Character(random.byte()),
     }
 }
 
 fn case(subject: &dyn Port, random: &mut Random) -> CaseResult {
-    let fresh = random.one_in(2);
-    let (start, mut got) = if fresh {
-        (Model.fresh(), subject.fresh())
-    } else {
-        let start = made_up(random);
-        (start, start)
-    };
-    let mut expected = start;
+    let start = made_up(random);
+    let (mut expected, mut got) = (start, start);
     let mut calls = Vec::new();
     // Now and then more than 64 writes, so that the address comes round.
     let length = if random.one_in(10) { 150 } else { random.between(1, 20) };
-    loop {
-        if got != expected {
-            let origin = if fresh { "a fresh record".to_string() } else { format!("{start:?}") };
-            return Err(format!("from {origin}\n  calls {calls:?}\n  model   {expected:?}\n  library {got:?}"));
-        }
-        if calls.len() == length {
-            return Ok(length as u64 + 1);
-        }
-        let call = random_call(random);
+    while calls.len() < length {
+        // Half of the sequences start as a host does.
+        let call = if calls.is_empty() && random.one_in(2) { Call::Reset } else { random_call(random) };
         calls.push(call);
-        expected = apply(&Model, expected, call);
-        got = apply(subject, got, call);
+        apply(&Model, &mut expected, call);
+        apply(subject, &mut got, call);
+        if got != expected {
+            return Err(format!("from {start:?}\n  calls {calls:?}\n  model   {expected:?}\n  library {got:?}"));
+        }
     }
+    Ok(length as u64)
 }
 
 pub fn run(subject: &dyn Port, plan: &Plan, say: &mut dyn FnMut(String)) -> Result<u64, Difference> {
     let part = Part {
         name: "port",
-        what: "random sequences of register writes",
+        what: "random sequences of resets and register writes",
         cases: SEQUENCES,
         case: &|_, random| case(subject, random),
     };
@@ -98,6 +93,7 @@ mod tests {
     }
 
     enum Mistake {
+        ResetsRegistersOnly,
         StoresNothing,
         NoWrap,
         RawWordsStay,
@@ -105,37 +101,42 @@ mod tests {
     }
 
     impl Port for Mistake {
-        fn fresh(&self) -> PortRecord {
-            Model.fresh()
-        }
-
-        fn write_address(&self, port: PortRecord, byte: u8) -> PortRecord {
-            let mut after = Model.write_address(port, byte);
-            if let Mistake::RawWordsStay = self {
-                after.words = port.words;
+        fn reset(&self, port: &mut PortRecord) {
+            let before = *port;
+            Model.reset(port);
+            if let Mistake::ResetsRegistersOnly = self {
+                port.words = before.words;
             }
-            after
         }
 
-        fn write_attribute(&self, port: PortRecord, byte: u8) -> PortRecord {
-            Model.write_attribute(port, byte)
+        fn write_address(&self, port: &mut PortRecord, byte: u8) {
+            let before = *port;
+            Model.write_address(port, byte);
+            if let Mistake::RawWordsStay = self {
+                port.words = before.words;
+            }
         }
 
-        fn write_character(&self, port: PortRecord, byte: u8) -> PortRecord {
-            let mut after = Model.write_character(port, byte);
+        fn write_attribute(&self, port: &mut PortRecord, byte: u8) {
+            Model.write_attribute(port, byte);
+        }
+
+        fn write_character(&self, port: &mut PortRecord, byte: u8) {
+            let before = *port;
+            Model.write_character(port, byte);
             match self {
-                Mistake::StoresNothing => after.words = port.words,
-                Mistake::NoWrap if after.address == 0 => after.address = 64,
-                Mistake::EventOnly => after.character = port.character,
+                Mistake::StoresNothing => port.words = before.words,
+                Mistake::NoWrap if port.address == 0 => port.address = 64,
+                Mistake::EventOnly => port.character = before.character,
                 _ => {}
             }
-            after
         }
     }
 
     #[test]
     fn every_planted_mistake_is_found() {
-        for mistake in [Mistake::StoresNothing, Mistake::NoWrap, Mistake::RawWordsStay, Mistake::EventOnly] {
+        use Mistake::*;
+        for mistake in [ResetsRegistersOnly, StoresNothing, NoWrap, RawWordsStay, EventOnly] {
             assert!(some(&mistake).unwrap_err().report.contains("library"));
         }
     }

@@ -35,20 +35,20 @@ impl Dac for Fast {
 }
 
 impl Port for Fast {
-    fn fresh(&self) -> PortRecord {
-        port::fresh()
+    fn reset(&self, port: &mut PortRecord) {
+        port::reset(port);
     }
 
-    fn write_address(&self, port: PortRecord, byte: u8) -> PortRecord {
-        port::write_address(port, byte)
+    fn write_address(&self, port: &mut PortRecord, byte: u8) {
+        port::write_address(port, byte);
     }
 
-    fn write_attribute(&self, port: PortRecord, byte: u8) -> PortRecord {
-        port::write_attribute(port, byte)
+    fn write_attribute(&self, port: &mut PortRecord, byte: u8) {
+        port::write_attribute(port, byte);
     }
 
-    fn write_character(&self, port: PortRecord, byte: u8) -> PortRecord {
-        port::write_character(port, byte)
+    fn write_character(&self, port: &mut PortRecord, byte: u8) {
+        port::write_character(port, byte);
     }
 }
 

@@ -11,26 +11,23 @@ fn cut(port: &mut PortRecord) {
     }
 }
 
-pub fn fresh() -> PortRecord {
-    PortRecord { address: 0, attribute: 0, character: 0, words: [0; 64] }
+pub fn reset(port: &mut PortRecord) {
+    *port = PortRecord { address: 0, attribute: 0, character: 0, words: [0; 64] };
 }
 
-pub fn write_address(mut port: PortRecord, byte: u8) -> PortRecord {
-    cut(&mut port);
+pub fn write_address(port: &mut PortRecord, byte: u8) {
+    cut(port);
     port.address = byte & 63;
-    port
 }
 
-pub fn write_attribute(mut port: PortRecord, byte: u8) -> PortRecord {
-    cut(&mut port);
+pub fn write_attribute(port: &mut PortRecord, byte: u8) {
+    cut(port);
     port.attribute = byte & 15;
-    port
 }
 
-pub fn write_character(mut port: PortRecord, byte: u8) -> PortRecord {
-    cut(&mut port);
+pub fn write_character(port: &mut PortRecord, byte: u8) {
+    cut(port);
     port.character = byte & 63;
     port.words[usize::from(port.address & 63)] = u16::from(port.character) << 4 | u16::from(port.attribute);
     port.address = (port.address + 1) & 63;
-    port
 }

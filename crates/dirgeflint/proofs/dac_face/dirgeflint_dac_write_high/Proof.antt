@@ -9,6 +9,8 @@ use Rattle.dac.specs.declared.Dac.{Dac}
 use Rattle.dac.specs.Running.{highWritten}
 use Rattle.dac.proofs.write_high.Symbol as step
 use Rattle.dac.proofs.write_high.Met as step-met
+use Rattle.dac.proofs.Dac.{the-type}
+use Rattle.dac.proofs.Dac.Laws.{the-laws}
 use Rattle.lent.proofs.Write.{WriteStep, write-meets}
 use Rattle.dirgeflint.proofs.dac_face.dirgeflint_dac_write_high as f
 use Rattle.dirgeflint.proofs.dac_face.dirgeflint_dac_write_high.Code as code
@@ -30,5 +32,5 @@ unfolding code.routine tablesOf
 dirgeflint-dac-write-high-spec 𝓤 H 𝓜 𝓖 𝓡 =
     entered 𝓤 H (tripleOf 𝓤 H (𝓖 .A) f.signature (f.spec 𝓤 H (𝓖 .A) (𝓜 .mem) (𝓡 .run)))
     (tables 𝓤 H 𝓜 𝓡 code.env .C) (tables 𝓤 H 𝓜 𝓡 code.env .Λ) key.name code.function (code.unfolded 𝓤 H 𝓜 𝓡)
-    (write-meets Says Claims so step.name 𝓤 H (𝓖 .A) (givenOf 𝓤 H 𝓜 𝓖) (tablesOf 𝓤 H 𝓜 (tables 𝓤 H 𝓜 𝓡 code.env))
-    (cited 𝓤 H (WriteStep Says 𝓤 H (𝓖 .A)) 𝓜 𝓡 code.env step.name step.routine code.calls-dac·write-high (step-met.met 𝓤 H 𝓜 𝓖 𝓡)))
+    (write-meets the-type the-laws Says Claims so step.name 𝓤 H (𝓖 .A) (givenOf 𝓤 H 𝓜 𝓖) (tablesOf 𝓤 H 𝓜 (tables 𝓤 H 𝓜 𝓡 code.env))
+    (cited 𝓤 H (WriteStep the-type Says 𝓤 H (𝓖 .A)) 𝓜 𝓡 code.env step.name step.routine code.calls-dac·write-high (step-met.met 𝓤 H 𝓜 𝓖 𝓡)))
