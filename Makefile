@@ -23,8 +23,8 @@ CLI != echo cli/*.c cli/*.h
 
 all: $(LIBRARY) $(PROGRAM)
 
-# The library's own sources decide, not tools/native, whose change alters no promise.
-$(LIBRARY): $(CRATES)
+# tools/native leaves the library as it is if the sources were but touched; then it counts as new, so as not to be asked again.
+$(LIBRARY): tools/native $(CRATES)
 	@echo 'proving and compiling the library: about two minutes the first time'
 	tools/native dirgeflint
 	@touch $@
@@ -53,6 +53,6 @@ uninstall:
 
 clean:
 	rm -rf target/cli
-	rm -f $(LIBRARY)
+	rm -f $(LIBRARY) $(LIBRARY).sum $(LIBRARY).log
 
 .PHONY: all check install uninstall clean
