@@ -1,0 +1,19 @@
+/* A font as a drawing: a heading for each cell, then its rows, a character a dot. */
+#ifndef DRAWING_H
+#define DRAWING_H
+
+#include <stdio.h>
+
+#include "dirgeflint.h"
+
+struct drawing {
+    uint16_t rows[DIRGEFLINT_FONT_ROWS];
+    size_t headings[DIRGEFLINT_CELLS]; /* the line of each cell's heading, 0 for a cell that is not drawn */
+};
+
+/* Reads a drawing; gives the status. A cell that is not drawn is empty. */
+int read_drawing(const char *path, struct drawing *drawing);
+
+void write_cell(FILE *stream, const uint16_t *font, uint32_t cell);
+
+#endif

@@ -1,0 +1,57 @@
+#include <stdio.h>
+
+#include "commands.h"
+#include "drawing.h"
+#include "input.h"
+#include "options.h"
+#include "output.h"
+#include "say.h"
+
+enum { LIST = 8 * DIRGEFLINT_CELLS }; /* no cell takes more than ", 40 to " of the list of the empty ones */
+
+/* Lists the cells that are not drawn, runs of them by their ends; gives how many there are. */
+static int list_empty(const struct drawing *drawing, char list[LIST])
+{
+    size_t used = 0;
+    int empty = 0;
+    for (int first = 0, after; first < DIRGEFLINT_CELLS; first = after + 1) {
+        for (after = first; after < DIRGEFLINT_CELLS && drawing->headings[after] == 0; after++)
+            empty++;
+        if (after > first)
+            used += (size_t)snprintf(list + used, LIST - used, "%s%d", used == 0 ? "" : ", ", first);
+        if (after > first + 1)
+            used += (size_t)snprintf(list + used, LIST - used, " to %d", after - 1);
+    }
+    return empty;
+}
+
+static int write_text(const struct drawing *drawing, const char *path)
+{
+    static uint8_t text[DIRGEFLINT_TEXT_BYTES];
+    dirgeflint_answer answer = dirgeflint_hex_write(drawing->rows, DIRGEFLINT_FONT_ROWS, text, sizeof text);
+    if (answer.number != DIRGEFLINT_ACCEPTED)
+        return refused(PROGRAM, 0, answer, "the font: %s", dirgeflint_reason(answer.number));
+    struct output output;
+    if (!open_output(path, &output))
+        return TROUBLE;
+    fwrite(text, 1, sizeof text, output.stream);
+    return close_output(&output);
+}
+
+int font_command(int count, char **words)
+{
+    struct option options[] = { { "-o", true, NULL }, { NULL, false, NULL } };
+    struct usage usage = { "font", "a DRAWING.txt, or -", 1, 1, options };
+    struct drawing drawing;
+    char list[LIST];
+    int status;
+    if (!read_options(&usage, &count, words, &status))
+        return status;
+    status = read_drawing(words[0], &drawing);
+    if (status != DONE)
+        return status;
+    int empty = list_empty(&drawing, list);
+    if (empty > 0)
+        warn(input_name(words[0]), "%d cells are not drawn and are empty: %s", empty, list);
+    return write_text(&drawing, options[0].value);
+}

@@ -1,0 +1,44 @@
+#include "fonttext.h"
+
+#include "explain.h"
+#include "input.h"
+#include "say.h"
+
+#define NOT_GIVEN "%d of %d bytes are not given; they count as FF, which is lit dots in a row: first at address %04X (%s)"
+
+static int tell_gaps(const struct input *input, bool whole, uint32_t given)
+{
+    char place[REASON];
+    int all = DIRGEFLINT_IMAGE_BYTES, missing = all - (int)given;
+    size_t first = first_not_given(input->text);
+    if (missing == 0)
+        return DONE;
+    place_in_font(first, place);
+    if (whole)
+        return bad_input(input->name, 0, NOT_GIVEN, missing, all, (unsigned)first, place);
+    warn(input->name, NOT_GIVEN, missing, all, (unsigned)first, place);
+    return DONE;
+}
+
+static int turn_text(const struct input *input, bool whole, struct font *font)
+{
+    uint8_t image[DIRGEFLINT_IMAGE_BYTES];
+    dirgeflint_answer read = dirgeflint_hex_read((const uint8_t *)input->text.start, input->text.length, image, sizeof image);
+    if (read.number != DIRGEFLINT_ACCEPTED)
+        return explain_refusal(input, read, NULL);
+    dirgeflint_answer turned = dirgeflint_image_to_font(image, sizeof image, font->rows, DIRGEFLINT_FONT_ROWS);
+    if (turned.number != DIRGEFLINT_ACCEPTED)
+        return explain_refusal(input, turned, image);
+    font->given = read.value;
+    return tell_gaps(input, whole, read.value);
+}
+
+int load_font(const char *path, bool whole, struct font *font)
+{
+    struct input input;
+    if (!read_input(path, DIRGEFLINT_MOST_TEXT + 1, &input))
+        return TROUBLE;
+    int status = turn_text(&input, whole, font);
+    free_input(&input);
+    return status;
+}

@@ -1,0 +1,191 @@
+#define _XOPEN_SOURCE 700
+
+#include "output.h"
+
+#include <errno.h>
+#include <fcntl.h>
+#include <signal.h>
+#include <stdlib.h>
+#include <string.h>
+#include <sys/stat.h>
+#include <unistd.h>
+
+#include "say.h"
+
+enum { MOST_LINKS = 40, MOST_PATH = 4096 };
+
+/* What a signal has to remove: there is one output at a time. */
+static char *volatile unfinished;
+
+static void remove_unfinished(int signal_number)
+{
+    if (unfinished != NULL)
+        unlink(unfinished);
+    signal(signal_number, SIG_DFL);
+    raise(signal_number);
+}
+
+/* A standard file that is closed would lend its number to the next file opened; so it is opened, the wrong way round, and fails when used. */
+static void hold_standard_files(void)
+{
+    for (int file = 0; file <= 2; file++)
+        if (fcntl(file, F_GETFD) == -1 && open("/dev/null", file == 0 ? O_WRONLY : O_RDONLY) == -1)
+            _Exit(TROUBLE);
+}
+
+void prepare_output(void)
+{
+    static const int ends[] = { SIGHUP, SIGINT, SIGPIPE, SIGTERM };
+    hold_standard_files();
+    for (size_t i = 0; i < sizeof ends / sizeof ends[0]; i++)
+        if (signal(ends[i], remove_unfinished) == SIG_IGN)
+            signal(ends[i], SIG_IGN);
+    signal(SIGXFSZ, SIG_IGN); /* a file that grows too large is trouble with a file, and told like it */
+}
+
+bool is_standard_output(const char *path)
+{
+    return path == NULL || strcmp(path, "-") == 0 || strcmp(path, "/dev/stdout") == 0;
+}
+
+static const char *after_last_slash(const char *path)
+{
+    const char *slash = strrchr(path, '/');
+    return slash == NULL ? path : slash + 1;
+}
+
+/* The name in the folder of the path, to be freed; NULL without memory. */
+static char *beside(const char *path, const char *name)
+{
+    size_t folder = name[0] == '/' ? 0 : (size_t)(after_last_slash(path) - path);
+    char *joined = malloc(folder + strlen(name) + 1);
+    if (joined != NULL) {
+        memcpy(joined, path, folder);
+        strcpy(joined + folder, name);
+    }
+    return joined;
+}
+
+/* Where the links lead to, from a path that is then freed; NULL, with errno set, if they do not end or there is no memory. */
+static char *follow_links(char *path)
+{
+    char content[MOST_PATH];
+    for (int links = 0; path != NULL; links++) {
+        ssize_t length = readlink(path, content, sizeof content);
+        if (length == -1)
+            return path;
+        char *next = NULL;
+        if (links == MOST_LINKS || (size_t)length == sizeof content) {
+            errno = links == MOST_LINKS ? ELOOP : ENAMETOOLONG;
+        } else {
+            content[length] = '\0';
+            next = beside(path, content);
+        }
+        free(path);
+        path = next;
+    }
+    return NULL;
+}
+
+static mode_t usual_mode(void)
+{
+    mode_t mask = umask(0);
+    umask(mask);
+    return 0666 & ~mask;
+}
+
+/* The owner is kept where that is allowed; it has to come first, as it clears bits of the mode. */
+static bool keep_permissions(int file, const struct stat *old)
+{
+    if (old == NULL)
+        return fchmod(file, usual_mode()) == 0;
+    if (fchown(file, old->st_uid, old->st_gid) == -1 && errno != EPERM)
+        return false;
+    return fchmod(file, old->st_mode & 07777) == 0;
+}
+
+/* Opens the temporary file, named already, for what is to replace old, if there is such a file. */
+static FILE *open_temporary(char *temporary, const struct stat *old)
+{
+    int file = mkstemp(temporary);
+    if (file == -1)
+        return NULL;
+    unfinished = temporary;
+    FILE *stream = keep_permissions(file, old) ? fdopen(file, "wb") : NULL;
+    if (stream == NULL) {
+        int reason = errno;
+        close(file);
+        unlink(temporary);
+        unfinished = NULL;
+        errno = reason;
+    }
+    return stream;
+}
+
+static void forget(struct output *output)
+{
+    unfinished = NULL;
+    free(output->target);
+    free(output->temporary);
+}
+
+/* Opens the file that is to replace the path's, or the path itself where that is no regular file. */
+static FILE *open_file(const char *path, struct output *output)
+{
+    struct stat old;
+    bool exists = stat(path, &old) == 0;
+    if (exists && !S_ISREG(old.st_mode))
+        return fopen(path, "wb");
+    if (exists && access(path, W_OK) == -1)
+        return NULL;
+    output->target = follow_links(beside("", path));
+    if (output->target == NULL || (output->temporary = beside(output->target, ".dirgeflint-XXXXXX")) == NULL)
+        return NULL;
+    return open_temporary(output->temporary, exists ? &old : NULL);
+}
+
+bool open_output(const char *path, struct output *output)
+{
+    memset(output, 0, sizeof *output);
+    if (is_standard_output(path)) {
+        output->stream = stdout;
+        return true;
+    }
+    output->name = path;
+    output->stream = open_file(path, output);
+    if (output->stream == NULL) {
+        file_trouble(path, "written");
+        forget(output);
+    }
+    return output->stream != NULL;
+}
+
+/* Whether all that was written got there; else errno tells why. */
+static bool close_stream(FILE *stream)
+{
+    bool failed = fflush(stream) != 0 || ferror(stream);
+    int reason = errno;
+    if (fclose(stream) != 0 && !failed)
+        return false;
+    errno = reason;
+    return !failed;
+}
+
+int close_output(struct output *output)
+{
+    if (output->stream == stdout)
+        return DONE; /* finish_output looks at it */
+    bool written = close_stream(output->stream);
+    if (written && output->target != NULL)
+        written = rename(output->temporary, output->target) == 0;
+    int status = written ? DONE : file_trouble(output->name, "written");
+    if (!written && output->temporary != NULL)
+        unlink(output->temporary);
+    forget(output);
+    return status;
+}
+
+int finish_output(int status)
+{
+    return close_stream(stdout) ? status : file_trouble("<stdout>", "written");
+}

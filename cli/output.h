@@ -1,0 +1,28 @@
+/* Files that are written. A regular file is replaced only when it is whole, so open one when nothing can be refused any more. */
+#ifndef OUTPUT_H
+#define OUTPUT_H
+
+#include <stdbool.h>
+#include <stdio.h>
+
+struct output {
+    FILE *stream;
+    const char *name; /* for messages */
+    char *target;     /* what the temporary file is to replace, links followed; NULL if there is none */
+    char *temporary;
+};
+
+/* Standard output is what no path, - and /dev/stdout name. */
+bool is_standard_output(const char *path);
+
+/* Opens a file to write to its stream. False, and a message, if it cannot be written. */
+bool open_output(const char *path, struct output *output);
+
+/* Puts the file in its place and gives the status: if writing failed, a message says so and nothing is left of it. */
+int close_output(struct output *output);
+
+/* For main: the three standard files are there and signals leave no temporary file; and at the end all was written. */
+void prepare_output(void);
+int finish_output(int status);
+
+#endif

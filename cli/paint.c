@@ -1,0 +1,141 @@
+#include <errno.h>
+#include <stdlib.h>
+
+#include "commands.h"
+#include "fonttext.h"
+#include "input.h"
+#include "number.h"
+#include "options.h"
+#include "output.h"
+#include "picture.h"
+#include "say.h"
+#include "screen.h"
+
+/* The options with numbers come first, and of them the library's settings, in the order of the header. */
+enum { MODE, COLOUR, H, V, RATIO, FREQUENCY, FRAME, WIDTH, LINES, NUMBERS, FONT = NUMBERS, OFF, TEXT, OUTPUT, OPTIONS };
+enum { SETTINGS = FRAME };
+
+static const uint32_t usual[NUMBERS] = { [MODE] = 2 };
+
+static const char *const ranges[NUMBERS] = {
+    [MODE] = "modes are 0 to 3",
+    [COLOUR] = "colours are black, blue, green, cyan, red, magenta, yellow, white, or 0 to 7",
+    [H] = "h is 0 to 63",
+    [V] = "v is 0 to 63",
+    [RATIO] = "ratios are 0 to 2, and 3 is reserved",
+    [FREQUENCY] = "frequencies are 0 to 3",
+    [FRAME] = "a frame is a number of 32 bits",
+    [WIDTH] = "widths are 1 to 1024",
+    [LINES] = "there are 1 to 1024 lines",
+};
+
+static dirgeflint_settings settings_of(const uint32_t numbers[NUMBERS], bool on)
+{
+    dirgeflint_settings settings = { on, numbers[MODE], numbers[COLOUR], numbers[H], numbers[V], numbers[RATIO], numbers[FREQUENCY] };
+    return settings;
+}
+
+/* Numbers that the options do not give are the usual ones; a width and lines that are not given stay 0. */
+static int read_numbers(const struct option options[OPTIONS], uint32_t numbers[NUMBERS])
+{
+    char room[SHOWN];
+    for (int i = 0; i < NUMBERS; i++) {
+        numbers[i] = usual[i];
+        if (options[i].value == NULL)
+            continue;
+        struct slice value = slice_of(options[i].value);
+        bool read = i == COLOUR ? read_colour(value, &numbers[i]) : read_number(value, &numbers[i]);
+        if (!read || (numbers[i] == 0 && (i == WIDTH || i == LINES)))
+            return wrong_usage("paint", "%s takes no %s: %s", options[i].name, shown(value, room), ranges[i]);
+    }
+    return DONE;
+}
+
+/* What the library says to these numbers, for a screen of ends and an empty font, which it never refuses. */
+static dirgeflint_answer try_numbers(const uint32_t numbers[NUMBERS])
+{
+    static const uint16_t words[DIRGEFLINT_WORDS], font[DIRGEFLINT_FONT_ROWS];
+    uint8_t dots[DIRGEFLINT_MOST_WIDTH];
+    uint32_t line = numbers[LINES] == 0 ? 0 : numbers[LINES] - 1;
+    return dirgeflint_paint(words, DIRGEFLINT_WORDS, font, DIRGEFLINT_FONT_ROWS, settings_of(numbers, true), numbers[FRAME], line, numbers[WIDTH], dots,
+                            sizeof dots);
+}
+
+/* Whether the library refuses so if the one option is as given and the others are usual: then that option is to blame. */
+static bool is_to_blame(const uint32_t numbers[NUMBERS], int option, dirgeflint_answer answer)
+{
+    uint32_t alone[NUMBERS];
+    for (int i = 0; i < NUMBERS; i++)
+        alone[i] = i == option ? numbers[i] : usual[i];
+    return try_numbers(alone).number == answer.number;
+}
+
+static int judge_numbers(const struct option options[OPTIONS], const uint32_t numbers[NUMBERS])
+{
+    dirgeflint_answer answer = try_numbers(numbers);
+    if (answer.number == DIRGEFLINT_ACCEPTED)
+        return DONE;
+    for (int i = 0; i < NUMBERS; i++)
+        if (options[i].value != NULL && is_to_blame(numbers, i, answer))
+            return refused(PROGRAM, 0, answer, "%s %s: %s", options[i].name, options[i].value, ranges[i]);
+    return refused(PROGRAM, 0, answer, "%s", dirgeflint_reason(answer.number));
+}
+
+static int write_picture(const struct picture *picture, const char *path, bool text)
+{
+    struct output output;
+    if (!open_output(path, &output))
+        return TROUBLE;
+    if (text)
+        write_characters(output.stream, picture);
+    else
+        write_ppm(output.stream, picture);
+    return close_output(&output);
+}
+
+static int paint_scene(const struct scene *scene, struct picture *picture, const char *path, bool text)
+{
+    dirgeflint_answer answer = measure(scene, picture);
+    picture->dots = malloc((size_t)picture->width * picture->lines);
+    if (picture->dots == NULL)
+        return file_trouble(PROGRAM, "painted");
+    if (answer.number == DIRGEFLINT_ACCEPTED)
+        answer = paint_picture(scene, picture);
+    int status = answer.number == DIRGEFLINT_ACCEPTED ? write_picture(picture, path, text)
+                                                       : refused(PROGRAM, 0, answer, "the picture: %s", dirgeflint_reason(answer.number));
+    free(picture->dots);
+    return status;
+}
+
+int paint_command(int count, char **words)
+{
+    struct option options[OPTIONS + 1] = {
+        [MODE] = { "--mode", true, NULL }, [COLOUR] = { "--colour", true, NULL }, [H] = { "--h", true, NULL },
+        [V] = { "--v", true, NULL }, [RATIO] = { "--ratio", true, NULL }, [FREQUENCY] = { "--frequency", true, NULL },
+        [FRAME] = { "--frame", true, NULL }, [WIDTH] = { "--width", true, NULL }, [LINES] = { "--lines", true, NULL },
+        [FONT] = { "--font", true, NULL }, [OFF] = { "--off", false, NULL }, [TEXT] = { "--text", false, NULL },
+        [OUTPUT] = { "-o", true, NULL },
+    };
+    struct usage usage = { "paint", "a SCREEN, or -", 1, 1, options };
+    uint32_t numbers[NUMBERS];
+    int status;
+    if (!read_options(&usage, &count, words, &status))
+        return status;
+    const char *font_path = options[FONT].value, *path = options[OUTPUT].value;
+    if (font_path == NULL)
+        return wrong_usage("paint", "paint needs --font FONT.hex");
+    if (is_standard(words[0]) && is_standard(font_path))
+        return wrong_usage("paint", "standard input can be the screen or the font, not both");
+    status = read_numbers(options, numbers);
+    if (status == DONE)
+        status = judge_numbers(options, numbers);
+    if (status != DONE)
+        return status;
+    struct font font;
+    struct scene scene = { { 0 }, font.rows, settings_of(numbers, options[OFF].value == NULL), numbers[FRAME] };
+    struct picture picture = { numbers[WIDTH], numbers[LINES], NULL };
+    int of_font = load_font(font_path, false, &font), of_screen = read_screen(words[0], scene.words);
+    if (of_font != DONE || of_screen != DONE)
+        return of_font > of_screen ? of_font : of_screen;
+    return paint_scene(&scene, &picture, path, options[TEXT].value != NULL || path == NULL);
+}

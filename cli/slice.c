@@ -1,0 +1,38 @@
+#include "slice.h"
+
+#include <stdio.h>
+#include <string.h>
+
+enum { MOST_SHOWN = 28 }; /* bytes of a word that a message shows; four characters each, quotes and dots fit in SHOWN */
+
+struct slice slice_of(const char *string)
+{
+    struct slice all = { string, strlen(string) };
+    return all;
+}
+
+struct slice without_first(struct slice slice, size_t count)
+{
+    struct slice rest = { slice.start + count, slice.length - count };
+    return rest;
+}
+
+bool slice_is(struct slice slice, const char *string)
+{
+    return slice.length == strlen(string) && memcmp(slice.start, string, slice.length) == 0;
+}
+
+const char *shown(struct slice slice, char room[SHOWN])
+{
+    size_t used = 0;
+    room[used++] = '\'';
+    for (size_t i = 0; i < slice.length && i < MOST_SHOWN; i++) {
+        unsigned char byte = (unsigned char)slice.start[i];
+        if (byte >= ' ' && byte <= '~')
+            room[used++] = (char)byte;
+        else
+            used += (size_t)snprintf(room + used, SHOWN - used, "\\x%02X", (unsigned)byte);
+    }
+    snprintf(room + used, SHOWN - used, "%s", slice.length > MOST_SHOWN ? "..'" : "'");
+    return room;
+}
