@@ -2,14 +2,12 @@
 //! samples/try samples/host.rs compiles and runs it.
 
 #[repr(C)]
-#[derive(Clone, Copy, Default)]
 struct Pair {
     coarse: u8,
     fine: u8,
 }
 
 #[repr(C)]
-#[derive(Clone, Copy, Default)]
 struct Dac {
     position: u16,
     held: Pair,
@@ -24,30 +22,49 @@ struct Answer {
     value: u32,
 }
 
+const PERIOD: u32 = 16384;
+
 // As include/dirgeflint.h declares them. Nothing checks these lines against the library: copy them with care.
 extern "C" {
+    fn dirgeflint_dac_reset(dac: *mut Dac);
     fn dirgeflint_dac_write_low(dac: *mut Dac, byte: u8);
     fn dirgeflint_dac_write_high(dac: *mut Dac, byte: u8);
     fn dirgeflint_dac_play(dac: *mut Dac, clocks: u32, levels: *mut u8, levels_length: usize) -> Answer;
 }
 
-fn play(dac: &mut Dac, clocks: u32, levels: &mut [u8]) -> Result<(), u32> {
-    // The library writes to the record and to the slice, and nowhere else.
-    let answer = unsafe { dirgeflint_dac_play(dac, clocks, levels.as_mut_ptr(), levels.len()) };
-    match answer.number {
-        0 => Ok(()),
-        number => Err(number),
+impl Dac {
+    fn new() -> Dac {
+        let mut dac = std::mem::MaybeUninit::uninit();
+        // A reset fills the whole record.
+        unsafe {
+            dirgeflint_dac_reset(dac.as_mut_ptr());
+            dac.assume_init()
+        }
+    }
+
+    // The low half first: it is the high write that completes the pair.
+    fn tune(&mut self, coarse: u8, fine: u8) {
+        unsafe {
+            dirgeflint_dac_write_low(self, fine);
+            dirgeflint_dac_write_high(self, coarse);
+        }
+    }
+
+    fn play(&mut self, clocks: u32, levels: &mut [u8]) -> Result<(), u32> {
+        // The library writes to the record and to the slice, and nowhere else.
+        let answer = unsafe { dirgeflint_dac_play(self, clocks, levels.as_mut_ptr(), levels.len()) };
+        match answer.number {
+            0 => Ok(()),
+            number => Err(number),
+        }
     }
 }
 
 fn main() {
-    let mut dac = Dac::default();
-    let mut levels = [0; 16384];
-    unsafe {
-        dirgeflint_dac_write_low(&mut dac, 3);
-        dirgeflint_dac_write_high(&mut dac, 1);
-    }
-    play(&mut dac, 16384, &mut levels).expect("a period fits");
+    let mut dac = Dac::new();
+    let mut levels = [0; PERIOD as usize];
+    dac.tune(1, 3);
+    dac.play(PERIOD, &mut levels).expect("a period fits");
     println!("high clocks of a period: {}", levels.iter().filter(|&&level| level == 1).count());
-    println!("one clock too many: refused with {}", play(&mut dac, 16385, &mut levels).unwrap_err());
+    println!("one clock too many: refused with {}", dac.play(PERIOD + 1, &mut levels).unwrap_err());
 }
