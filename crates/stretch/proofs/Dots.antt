@@ -1,14 +1,16 @@
 -- Dots painted one after the other, and dots beyond the line's end, which are cut.
 -- Assumes nothing.
-use mathlib.Core.Path.{_≡_, ap, _∙_}
+use mathlib.Core.Path.{_≡_, sym, ap, _∙_}
 use mathlib.Core.List.{List}
-use Prim.Native.Nat.{ℕ, _+_, _<_, _≤_}
+use Prim.Native.Nat.{ℕ, _+_, _*_, _/_, _<_, _≤_}
 use native.Mathlib.Omega.{arith}
 use lib.ListN.{length, set}
 use Rattle.laws.specs.Lines.{overlay}
 use Rattle.laws.specs.Placing.{patched}
-use Rattle.laws.proofs.Overlay.{overlay-leaves, overlay-store, overlay-ext}
-use Rattle.laws.proofs.Patched.{patched-none, patched-here, patched-other, patched-cut}
+use Rattle.laws.proofs.Overlay.{overlay-leaves, overlay-same, overlay-twice, overlay-store, overlay-ext}
+use Rattle.laws.proofs.Patched.{patched-none, patched-here, patched-other, patched-more, patched-cut}
+use Rattle.laws.proofs.Placing.{part-at}
+use Rattle.stretch.specs.Stretch.{bitByte, stretched}
 
 -- one dot more is painted
 pub patch-more : (from i : ℕ) (shows : ℕ → ℕ) (out₀ out : List ℕ) → out ≡ overlay (patched from i shows) out₀ → from + i < length out₀
@@ -24,11 +26,44 @@ patch-first from shows out₀ lt =
     ap (λ (n : ℕ). set out₀ n (shows 0)) (omega arith)
     ∙ patch-more from 0 shows out₀ out₀ (overlay-leaves (patched from 0 shows) out₀ (λ k a l. patched-none from shows k a)) (omega arith)
 
+-- one to four dots of one byte, stored one after the other
+module _ (from size byte : ℕ) (out : List ℕ) (fits : from + size ≤ length out) where
+  first-two : 1 < size → set (set out from byte) (from + 1) byte ≡ overlay (patched from 2 (λ d. byte)) out
+  first-two lt = patch-more from 1 (λ d. byte) out _ (patch-first from (λ d. byte) out (omega arith)) (omega arith)
+
+  first-three : 2 < size → set (set (set out from byte) (from + 1) byte) (from + 2) byte ≡ overlay (patched from 3 (λ d. byte)) out
+  first-three lt = patch-more from 2 (λ d. byte) out _ (first-two (omega arith)) (omega arith)
+
+  pub one-dot : size ≡ 1 → set out from byte ≡ overlay (patched from size (λ d. byte)) out
+  one-dot is = rw is (patch-first from (λ d. byte) out (omega arith))
+
+  pub two-dots : size ≡ 2 → set (set out from byte) (from + 1) byte ≡ overlay (patched from size (λ d. byte)) out
+  two-dots is = rw is (first-two (omega arith))
+
+  pub three-dots : size ≡ 3 → set (set (set out from byte) (from + 1) byte) (from + 2) byte ≡ overlay (patched from size (λ d. byte)) out
+  three-dots is = rw is (first-three (omega arith))
+
+  pub four-dots : size ≡ 4 → set (set (set (set out from byte) (from + 1) byte) (from + 2) byte) (from + 3) byte ≡ overlay (patched from size (λ d. byte)) out
+  four-dots is = rw is (patch-more from 3 (λ d. byte) out _ (first-three (omega arith)) (omega arith))
+
 -- no dot
 pub patch-none : (from : ℕ) (shows : ℕ → ℕ) (out : List ℕ) → out ≡ overlay (patched from 0 shows) out
 patch-none from shows out = overlay-leaves (patched from 0 shows) out (λ k old lt. patched-none from shows k old)
 
--- of n dots the first i are on the line
-pub patch-cut : (from i n : ℕ) (shows : ℕ → ℕ) (out : List ℕ) → i ≤ n → length out ≤ from + i → overlay (patched from i shows) out ≡ overlay (patched from n shows) out
-patch-cut from i n shows out le end =
-    overlay-ext (patched from i shows) (patched from n shows) 0 out (λ k old lo hi. patched-cut from shows i n k old le (omega arith))
+-- of n dots the first i are on the line, and the others cut
+pub patch-cut : (from i n : ℕ) (shows : ℕ → ℕ) (out last : List ℕ) → i ≤ n → length out ≤ from + i → last ≡ overlay (patched from i shows) out → last ≡ overlay (patched from n shows) out
+patch-cut from i n shows out last le end laid =
+    laid ∙ overlay-ext (patched from i shows) (patched from n shows) 0 out (λ k old lo hi. patched-cut from shows i n k old le (omega arith))
+
+-- a column more: `size` dots of its byte, after j columns of as many
+pub column-more : (from size bits on off j byte : ℕ) (out₀ out next : List ℕ) → out ≡ overlay (stretched from (j * size) size bits on off) out₀ → byte ≡ bitByte bits j on off
+    → next ≡ overlay (patched (from + j * size) size (λ d. byte)) out → next ≡ overlay (stretched from ((j + 1) * size) size bits on off) out₀
+column-more from size bits on off j byte out₀ out next before is laid =
+    let shows : ℕ → ℕ = λ d. bitByte bits (d / size) on off in
+    let more : j * size + size ≡ (j + 1) * size = omega arith in
+    laid
+    ∙ ap (λ (t : List ℕ). overlay (patched (from + j * size) size (λ d. byte)) t) before
+    ∙ overlay-twice (patched from (j * size) shows) (patched (from + j * size) size (λ d. byte)) 0 out₀
+    ∙ overlay-same _ (patched from (j * size + size) shows) out₀ (λ k old. patched-more from shows (j * size) size byte k old
+    (λ d le lt. is ∙ ap (λ (q : ℕ). bitByte bits q on off) (sym (part-at j size d le lt))))
+    ∙ ap (λ (m : ℕ). overlay (patched from m shows) out₀) more

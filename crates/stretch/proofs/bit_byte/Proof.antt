@@ -22,14 +22,14 @@ shr-if1 c = search needs
 
 returns : tie.Need-returns
 returns c =
-    let a = c .before .args in
-    let set : a .bits / 2 ^ (cellColumns - 1 - a .j) % 2 ≡ 1 = c .if1 .taken in
+    let a = (let s : tie.Start = search in s .args) in
+    let set : a .bits / 2 ^ (cellColumns - 1 - a .j) % 2 ≡ 1 = search in
     simp (eq-eqb _ _ set)
 
 returns-2 : tie.Need-returns-2
 returns-2 c =
-    let a = c .before .args in
-    let clear : a .bits / 2 ^ (cellColumns - 1 - a .j) % 2 ≡ 1 → ⊥ = c .if1 .left in
+    let a = (let s : tie.Start = search in s .args) in
+    let clear : a .bits / 2 ^ (cellColumns - 1 - a .j) % 2 ≡ 1 → ⊥ = search in
     simp (ne-eqb _ _ clear)
 
 pub bit-byte-spec : {M : Type 1} → statement M

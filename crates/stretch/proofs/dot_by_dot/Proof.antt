@@ -22,14 +22,17 @@ abbrev μ-loop : tie.MeasureT-loop
 
 loop-holds : tie.Need-loop-holds Inv-loop μ-loop
 loop-holds c =
-    let a = c .before .args in
+    let a = (let s : tie.Start Inv-loop μ-loop = search in s .args) in
     (omega arith, (patch-none (a .from) (λ d. bitByte (a .bits) (d / a .size) (a .on) (a .off)) (a .out .now), refl))
 
 div-bit-byte : tie.Need-div-bit-byte Inv-loop μ-loop
 div-bit-byte c = omega arith
 
 bit-byte-requires : tie.Need-bit-byte-requires Inv-loop μ-loop
-bit-byte-requires c κs = omega (arith, part-below cellColumns (c .before .before .before .args .size) (c .before .loop .i) (omega arith))
+bit-byte-requires c κs =
+    let a = (let s : tie.Start Inv-loop μ-loop = search in s .args) in
+    let l = (let h : tie.At-loop Inv-loop μ-loop = search in h .loop) in
+    omega (arith, part-below cellColumns (a .size) (l .i) (omega arith))
 
 add-out : tie.Need-add-out Inv-loop μ-loop
 add-out c = omega arith
@@ -45,23 +48,26 @@ loop-less c = omega arith
 
 loop-again : tie.Need-loop-again Inv-loop μ-loop
 loop-again c =
-    let a = c .before .before .before .before .args in
-    let l = c .before .before .loop in
+    let a = (let s : tie.Start Inv-loop μ-loop = search in s .args) in
+    let l = (let h : tie.At-loop Inv-loop μ-loop = search in h .loop) in
+    let byte = (let p : tie.After-bit-byte Inv-loop μ-loop = search in p .bit-byte .ensures) in
     let shows : ℕ → ℕ = λ d. bitByte (a .bits) (d / a .size) (a .on) (a .off) in
-    let e =
-    ap (λ (b : ℕ). set (l .out) (a .from + l .i) b) (c .bit-byte .ensures)
+    let more =
+    ap (λ (b : ℕ). set (l .out) (a .from + l .i) b) byte
     ∙ patch-more (a .from) (l .i) shows (a .out .now) (l .out) (l .inv .1 .0) (omega arith) in
-    (omega arith, (e, ap length e ∙ overlay-length (patched (a .from) (l .i + 1) shows) 0 (a .out .now)))
+    (omega arith, (more, ap length more ∙ overlay-length (patched (a .from) (l .i + 1) shows) 0 (a .out .now)))
 
 same-length : tie.Need-same-length Inv-loop μ-loop
-same-length c = c .before .loop .inv .1 .1
+same-length c =
+    let l = (let h : tie.At-loop Inv-loop μ-loop = search in h .loop) in
+    l .inv .1 .1
 
 returns : tie.Need-returns Inv-loop μ-loop
 returns c =
-    let a = c .before .before .before .args in
-    let l = c .before .loop in
-    let e : l .i ≡ a .n = omega arith in
-    l .inv .1 .0 ∙ ap (λ (i : ℕ). overlay (stretched (a .from) i (a .size) (a .bits) (a .on) (a .off)) (a .out .now)) e
+    let a = (let s : tie.Start Inv-loop μ-loop = search in s .args) in
+    let l = (let h : tie.At-loop Inv-loop μ-loop = search in h .loop) in
+    let all : l .i ≡ a .n = omega arith in
+    l .inv .1 .0 ∙ ap (λ (i : ℕ). overlay (stretched (a .from) i (a .size) (a .bits) (a .on) (a .off)) (a .out .now)) all
 
 pub dot-by-dot-spec : {M : Type 1} → statement M
 dot-by-dot-spec =

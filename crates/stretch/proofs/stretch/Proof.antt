@@ -14,9 +14,9 @@ use Rattle.stretch.proofs.stretch.Tie as tie
 
 returns : tie.Need-returns
 returns c =
-    let a = c .before .before .args in
+    let a = (let s : tie.Start = search in s .args) in
     let shows : ℕ → ℕ = λ d. bitByte (a .bits) (d / a .size) (a .on) (a .off) in
-    patch-none (a .x .0) shows (a .out .now) ∙ patch-cut (a .x .0) 0 (cellColumns * a .size) shows (a .out .now) (omega arith) (omega arith)
+    patch-cut (a .x .0) 0 (cellColumns * a .size) shows (a .out .now) _ (omega arith) (omega arith) (patch-none (a .x .0) shows (a .out .now))
 
 mul-dots : tie.Need-mul-dots
 mul-dots c = omega arith
@@ -32,16 +32,17 @@ same-length c = search needs
 
 returns-2 : tie.Need-returns-2
 returns-2 c =
-    let a = c .before .before .before .before .before .before .before .args in
+    let a = (let s : tie.Start = search in s .args) in
+    let laid = (let p : tie.After-dot-by-dot = search in p .dot-by-dot .ensures) in
     let shows : ℕ → ℕ = λ d. bitByte (a .bits) (d / a .size) (a .on) (a .off) in
-    c .before .before .dot-by-dot .ensures ∙ patch-cut (a .x .0) (length (a .out .now) - a .x .0) (cellColumns * a .size) shows (a .out .now) (omega arith) (omega arith)
+    patch-cut (a .x .0) (length (a .out .now) - a .x .0) (cellColumns * a .size) shows (a .out .now) _ (omega arith) (omega arith) laid
 
 returns-3 : tie.Need-returns-3
 returns-3 c =
-    let a = c .before .before .before .before .args in
+    let a = (let s : tie.Start = search in s .args) in
     let shows : ℕ → ℕ = λ d. bitByte (a .bits) (d / a .size) (a .on) (a .off) in
-    let e : 0 ≡ cellColumns * a .size = omega arith in
-    patch-none (a .x .0) shows (a .out .now) ∙ ap (λ (n : ℕ). overlay (stretched (a .x .0) n (a .size) (a .bits) (a .on) (a .off)) (a .out .now)) e
+    let none : 0 ≡ cellColumns * a .size = omega arith in
+    patch-none (a .x .0) shows (a .out .now) ∙ ap (λ (n : ℕ). overlay (stretched (a .x .0) n (a .size) (a .bits) (a .on) (a .off)) (a .out .now)) none
 
 dot-by-dot-requires-2 : tie.Need-dot-by-dot-requires-2
 dot-by-dot-requires-2 c κs = search needs
