@@ -77,7 +77,9 @@ mod tests {
         assert_eq!(number(b"0xfF"), Some(255));
         assert_eq!(number(b"4294967295"), Some(u32::MAX));
         assert_eq!(number(b"0x00000FFFFFFFF"), Some(u32::MAX));
-        for wrong in ["", "0x", "-1", "+1", "4294967296", "0x100000000", "1a", "0XFF", "1.0", " 1", "99999999999999999999"] {
+        for wrong in
+            ["", "0x", "-1", "+1", "4294967296", "0x100000000", "1a", "0XFF", "1.0", " 1", "99999999999999999999"]
+        {
             assert_eq!(number(wrong.as_bytes()), None, "{wrong}");
         }
         assert_eq!(decimal(b"0x10"), None);

@@ -5,16 +5,22 @@ use super::program::{End, Ended, Order, Program};
 use std::ffi::OsString;
 
 /// A line of standard error. Where its wording is free, only its start and its end are known, and what it has to name.
-#[derive(Clone, Debug, Default)]
+#[derive(Clone, Debug)]
 pub struct Line {
     pub start: String,
     pub names: Vec<String>,
     pub end: String,
+    /// Whether anything may stand between start and end.
+    free: bool,
 }
 
 impl Line {
     pub fn new(start: impl Into<String>, end: impl Into<String>) -> Self {
-        Line { start: start.into(), names: Vec::new(), end: end.into() }
+        Line { start: start.into(), names: Vec::new(), end: end.into(), free: true }
+    }
+
+    pub fn exactly(text: impl Into<String>) -> Self {
+        Line { start: text.into(), names: Vec::new(), end: String::new(), free: false }
     }
 
     pub fn naming(mut self, what: impl Into<String>) -> Self {
@@ -24,7 +30,8 @@ impl Line {
 
     fn fits(&self, line: &str) -> bool {
         let rest = line.strip_prefix(self.start.as_str()).and_then(|rest| rest.strip_suffix(self.end.as_str()));
-        rest.is_some() && self.names.iter().all(|name| line.contains(name.as_str()))
+        rest.is_some_and(|rest| self.free || rest.is_empty())
+            && self.names.iter().all(|name| line.contains(name.as_str()))
     }
 }
 
@@ -34,7 +41,7 @@ impl std::fmt::Display for Line {
         for name in &self.names {
             write!(out, "..{name}")?;
         }
-        write!(out, "..{}", self.end)
+        write!(out, "{}{}", if self.free { ".." } else { "" }, self.end)
     }
 }
 
@@ -193,8 +200,7 @@ impl Case {
             folder.put(name, thing).map_err(trouble)?;
         }
         let before = folder.things().map_err(trouble)?;
-        let order =
-            Order { words: &self.words, input: self.input.as_deref(), folder: folder.path(), full: self.full };
+        let order = Order { words: &self.words, input: self.input.as_deref(), folder: folder.path(), full: self.full };
         let ended = program.run(&order).map_err(trouble)?;
         let after = folder.things().map_err(trouble)?;
         let differences = [

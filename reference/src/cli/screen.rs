@@ -80,7 +80,8 @@ pub struct Picture {
 impl Scene {
     /// How many dots and lines the cells reach. What starts past the last dot or line is not seen, and does not count.
     fn reach(&self) -> (u32, u32) {
-        let seen = cells(&self.words, &self.settings).into_iter().filter(|cell| cell.left < WIDEST && cell.top < WIDEST);
+        let seen =
+            cells(&self.words, &self.settings).into_iter().filter(|cell| cell.left < WIDEST && cell.top < WIDEST);
         seen.fold((1, 1), |(width, lines), cell| {
             let (right, bottom) = (cell.left + 12 * cell.size, cell.top + 18 * cell.size);
             (width.max(right.min(WIDEST)), lines.max(bottom.min(WIDEST)))
@@ -132,7 +133,8 @@ mod tests {
 
     #[test]
     fn words_by_their_parts() {
-        let text = b"character 0 white\n space\tred ; red\n\r\n# none\nreturn 2 4#\r\ncharacter 61 0x1 blink\nend\n0x3ff";
+        let text =
+            b"character 0 white\n space\tred ; red\n\r\n# none\nreturn 2 4#\r\ncharacter 61 0x1 blink\nend\n0x3ff";
         let words = screen(text).unwrap();
         assert_eq!(words[..6], [14, 1016, 997, 979, 1009, 1023]);
         assert_eq!(words[6..], [END; 58]);

@@ -88,10 +88,11 @@ fn holder(address: usize) -> String {
 pub fn partial(name: &str, good: &Good, word: &str) -> Option<Line> {
     let first = *good.not_given.first()?;
     let number = good.not_given.len();
-    Some(Line::new(
-        format!("{name}: {word}{number} of 8192 bytes are not given; they count as FF, which is lit dots in a row: "),
-        format!("first at address {first:04X} ({})", holder(first)),
-    ))
+    Some(Line::exactly(format!(
+        "{name}: {word}{number} of 8192 bytes are not given; they count as FF, which is lit dots in a row: \
+         first at address {first:04X} ({})",
+        holder(first)
+    )))
 }
 
 /// The lines that a command which only warns has about a text.
@@ -158,7 +159,7 @@ mod tests {
 
     #[test]
     fn the_first_byte_not_given_is_named() {
-        let lit = "they count as FF, which is lit dots in a row: ..first at address";
+        let lit = "they count as FF, which is lit dots in a row: first at address";
         assert_eq!(said(b":00000001FF"), format!("F: 8192 of 8192 bytes are not given; {lit} 0000 (cell 0 row 0)"));
         let text = written_text(&[0xFF; IMAGE_BYTES]);
         assert_eq!(said(text.as_bytes()), "whole 8192");
