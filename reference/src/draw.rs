@@ -1,8 +1,10 @@
 //! Reads a font drawn as plain text.
 //!
-//! A cell is a heading `cell NN NAME` and 18 rows of 12 characters, `#` for a lit dot and `.` for an unlit one. The
-//! cells are numbered 0 to 61 and come in that order. Empty lines and lines that begin with `;` are passed over.
+//! A cell is a heading `cell NN`, with a name after it or none, and 18 rows of 12 characters, `#` for a lit dot and `.`
+//! for an unlit one. Cells come in any order, each at most once, and one that is not drawn is empty. Empty lines and
+//! lines that begin with `;` are passed over.
 
+use crate::lines::{decimal, lines, trimmed, words};
 use crate::model::hex::written_text;
 use crate::model::image::{self, CELLS, FONT_ROWS, ROWS};
 use std::fmt;
@@ -23,86 +25,95 @@ impl fmt::Display for Complaint {
     }
 }
 
-/// The number of a heading's cell, if the line is a heading with a name.
-fn heading(line: &str) -> Option<usize> {
-    let mut words = line.strip_prefix("cell ")?.split_whitespace();
-    let number = words.next()?.parse().ok()?;
-    words.next()?;
-    Some(number)
+/// A drawing that was read.
+#[derive(Clone, Debug, PartialEq, Eq)]
+pub struct Drawn {
+    pub font: Vec<u16>,
+    /// The cells that are not drawn, by rising number.
+    pub missing: Vec<usize>,
+}
+
+/// Whether a line is meant as a heading, right or wrong.
+fn is_heading(line: &[u8]) -> bool {
+    line == b"cell" || line.starts_with(b"cell ") || line.starts_with(b"cell\t")
+}
+
+/// The cell of a heading, or what is wrong with it.
+fn heading(line: &[u8], drawn: &[bool]) -> Result<usize, String> {
+    if !is_heading(line) {
+        return Err("the heading of a cell is due here; write \"cell NN\", NN from 0 to 61".to_string());
+    }
+    let number = words(line).get(1).and_then(|word| decimal(word)).map(|number| number as usize);
+    let cell = number.filter(|&number| number < CELLS).ok_or("a cell's number is 0 to 61, in decimal digits")?;
+    if drawn[cell] {
+        return Err(format!("cell {cell} is drawn already; draw each cell once"));
+    }
+    Ok(cell)
 }
 
 /// The bits of a row, or what is wrong with it. The leftmost dot is the highest bit.
-fn row(line: &str) -> Result<u16, String> {
-    let count = line.chars().count();
-    if count != COLUMNS {
-        return Err(format!("this row has {count} characters; give it {COLUMNS}"));
-    }
+fn row(line: &[u8]) -> Result<u16, String> {
     let mut bits = 0;
-    for (column, dot) in line.chars().enumerate() {
-        bits = 2 * bits
-            + match dot {
-                '#' => 1,
-                '.' => 0,
-                other => {
-                    return Err(format!(
-                        "{other:?} in column {} is no dot; use # for a lit one and . for an unlit one",
-                        column + 1
-                    ))
-                }
-            };
+    for (column, &dot) in line.iter().enumerate().take(COLUMNS) {
+        bits = match dot {
+            b'#' => 2 * bits + 1,
+            b'.' => 2 * bits,
+            other => {
+                return Err(format!(
+                    "{:?} in column {} is no dot; use # for a lit one and . for an unlit one",
+                    char::from(other),
+                    column + 1
+                ))
+            }
+        };
+    }
+    if line.len() != COLUMNS {
+        return Err(format!("this row has {} characters; give it {COLUMNS}", line.len()));
     }
     Ok(bits)
 }
 
-/// Checks the heading of the cell that is due.
-fn check_heading(line: &str, due: usize) -> Result<(), String> {
-    if due == CELLS {
-        return Err(format!("this comes after the last cell; a font has {CELLS} cells, so remove it"));
-    }
-    match heading(line) {
-        Some(number) if number == due => Ok(()),
-        Some(number) => Err(format!("cell {number} comes where cell {due} is due; number the cells 0 to 61 in order")),
-        None => Err(format!("the heading of cell {due} is due here; write \"cell {due:02} NAME\"")),
-    }
-}
-
 /// The font of a drawing.
-pub fn font(drawing: &str) -> Result<Vec<u16>, Complaint> {
-    let mut rows = Vec::new();
+pub fn drawn(drawing: &[u8]) -> Result<Drawn, Complaint> {
+    let mut font = vec![0; FONT_ROWS];
+    let mut drawn = [false; CELLS];
     // Of the cell whose heading was read last.
-    let mut rows_due = 0;
-    let mut last_line = 1;
-    for (index, line) in drawing.lines().enumerate() {
+    let (mut cell, mut rows_due) = (0, 0);
+    let lines = lines(drawing);
+    for (index, line) in lines.iter().enumerate() {
         let complain = |what: String| Complaint { line: index + 1, what };
-        last_line = index + 1;
-        if line.trim().is_empty() || line.starts_with(';') {
+        let line = trimmed(line);
+        if line.is_empty() || line.starts_with(b";") {
             continue;
         }
         if rows_due == 0 {
-            check_heading(line, rows.len() / ROWS).map_err(complain)?;
+            cell = heading(line, &drawn).map_err(complain)?;
+            drawn[cell] = true;
             rows_due = ROWS;
-        } else if heading(line).is_some() {
+        } else if is_heading(line) {
             return Err(complain(format!("{rows_due} rows are missing before this heading; every cell has {ROWS}")));
         } else {
-            rows.push(row(line).map_err(complain)?);
+            font[ROWS * cell + ROWS - rows_due] = row(line).map_err(complain)?;
             rows_due -= 1;
         }
     }
-    if rows.len() != FONT_ROWS {
-        let (cell, drawn) = (rows.len() / ROWS, rows.len() % ROWS);
-        let what = format!("the drawing stops with {drawn} rows of cell {cell}; draw all {CELLS} cells of {ROWS} rows");
-        return Err(Complaint { line: last_line, what });
+    let stopped = |what: String| Err(Complaint { line: lines.len().max(1), what });
+    if rows_due > 0 {
+        return stopped(format!("the drawing stops before the last {rows_due} rows of cell {cell}; draw all {ROWS}"));
     }
-    Ok(rows)
+    if drawn == [false; CELLS] {
+        return stopped("the drawing has no cell; draw at least one, with the heading \"cell NN\"".to_string());
+    }
+    Ok(Drawn { font, missing: (0..CELLS).filter(|&cell| !drawn[cell]).collect() })
 }
 
 /// The image of a drawing.
-pub fn image(drawing: &str) -> Result<Vec<u8>, Complaint> {
-    Ok(image::of_font(&font(drawing)?))
+pub fn image(drawing: &[u8]) -> Result<Vec<u8>, Complaint> {
+    Ok(image::of_font(&drawn(drawing)?.font))
 }
 
 /// The hex text of a drawing.
-pub fn text(drawing: &str) -> Result<String, Complaint> {
+pub fn text(drawing: &[u8]) -> Result<String, Complaint> {
     Ok(written_text(&image(drawing)?))
 }
 
@@ -111,7 +122,7 @@ mod tests {
     use super::*;
     use crate::model::fontcheck;
 
-    const SAMPLE: &str = include_str!("../../samples/font.txt");
+    const SAMPLE: &[u8] = include_bytes!("../../samples/font.txt");
     const SAMPLE_TEXT: &[u8] = include_bytes!("../../samples/font.hex");
 
     #[test]
@@ -121,8 +132,9 @@ mod tests {
     }
 
     #[test]
-    fn the_sample_has_no_cell_twice() {
-        let font = font(SAMPLE).unwrap();
+    fn the_sample_has_every_cell_and_no_two_alike() {
+        let Drawn { font, missing } = drawn(SAMPLE).unwrap();
+        assert_eq!(missing, []);
         let cells: Vec<&[u16]> = font.chunks(ROWS).collect();
         for (number, cell) in cells.iter().enumerate() {
             assert!(!cells[..number].contains(cell), "cell {number}");
@@ -131,31 +143,49 @@ mod tests {
 
     #[test]
     fn the_leftmost_dot_is_the_highest_bit() {
-        assert_eq!(row("#..........."), Ok(2048));
-        assert_eq!(row("..........##"), Ok(3));
-        assert_eq!(row("############"), Ok(4095));
+        assert_eq!(row(b"#..........."), Ok(2048));
+        assert_eq!(row(b"..........##"), Ok(3));
+        assert_eq!(row(b"############"), Ok(4095));
+    }
+
+    fn cell(heading: &str) -> String {
+        format!("cell {heading}\n{}", "###########.\n".repeat(ROWS))
+    }
+
+    #[test]
+    fn cells_come_in_any_order_with_a_name_or_none() {
+        let drawing = cell("61 A name") + "\n; words\n \t\n" + &cell("7") + &cell("003\tX");
+        let Drawn { font, missing } = drawn(drawing.as_bytes()).unwrap();
+        assert_eq!(missing, (0..61).filter(|cell| ![3, 7].contains(cell)).collect::<Vec<usize>>());
+        for (number, rows) in font.chunks(ROWS).enumerate() {
+            let due = if [3, 7, 61].contains(&number) { 0xFFE } else { 0 };
+            assert!(rows.iter().all(|&row| row == due), "cell {number}");
+        }
+        let windows = drawing.replace('\n', " \t\r\n");
+        assert_eq!(drawn(windows.as_bytes()), drawn(drawing.as_bytes()));
+        assert_eq!(drawn(drawing.trim_end().as_bytes()), drawn(drawing.as_bytes()));
     }
 
     fn complaint(drawing: &str) -> String {
-        font(drawing).unwrap_err().to_string()
+        drawn(drawing.as_bytes()).unwrap_err().to_string()
     }
 
     #[test]
     fn complaints_name_the_line_and_the_remedy() {
-        let one_row = "............\n";
-        let cell = |number: usize| format!("cell {number:02} X\n{}", one_row.repeat(ROWS));
-        let cells: String = (0..CELLS).map(cell).collect();
-        assert_eq!(font(&cells), Ok(vec![0; FONT_ROWS]));
-        let windows = cells.replace('\n', "\r\n");
-        assert_eq!(font(&windows), Ok(vec![0; FONT_ROWS]));
-
-        assert!(complaint("").starts_with("line 1: the drawing stops with 0 rows of cell 0"));
-        assert!(complaint("\n; words\ncell 1 A").starts_with("line 3: cell 1 comes where cell 0 is due"));
-        assert!(complaint("cell 00").starts_with("line 1: the heading of cell 0 is due"));
+        assert!(complaint("").starts_with("line 1: the drawing has no cell"));
+        assert!(complaint("\n; words\n").starts_with("line 2: the drawing has no cell"));
+        assert!(complaint("\n............").starts_with("line 2: the heading of a cell is due"));
+        assert!(complaint("cells 00").starts_with("line 1: the heading of a cell is due"));
+        for wrong in ["cell", "cell 62", "cell x", "cell 0x1", "cell -1", "cell +1", "cell 4294967296"] {
+            assert!(complaint(wrong).starts_with("line 1: a cell's number is 0 to 61"), "{wrong}");
+        }
+        assert!(complaint(&(cell("5") + "\n" + &cell("05 B"))).starts_with("line 21: cell 5 is drawn already"));
+        assert!(complaint(&(cell("5") + "............")).starts_with("line 20: the heading of a cell is due"));
         assert!(complaint("cell 00 A\n...").starts_with("line 2: this row has 3 characters"));
-        assert!(complaint("cell 00 A\n....x.......").starts_with("line 2: 'x' in column 5 is no dot"));
-        assert!(complaint("cell 00 A\n............\ncell 01 B").starts_with("line 3: 17 rows are missing"));
-        assert!(complaint(&(cells.clone() + "cell 62 X")).contains("after the last cell"));
-        assert!(complaint(&cells[..cells.len() - 13]).contains("stops with 17 rows of cell 61"));
+        assert!(complaint("cell 00\n.............").starts_with("line 2: this row has 13 characters"));
+        assert!(complaint("cell 00\n....x.......").starts_with("line 2: 'x' in column 5 is no dot"));
+        assert!(complaint("cell 00\n ...........").starts_with("line 2: ' ' in column 1 is no dot"));
+        assert!(complaint("cell 00\n............\ncell 01 B").starts_with("line 3: 17 rows are missing"));
+        assert!(complaint("cell 00\n............\n").starts_with("line 2: the drawing stops before the last 17 rows"));
     }
 }

@@ -5,16 +5,19 @@
 //! implements the traits of `parts` beside the model, and `bridge` makes the library such a thing. `fast` gives the
 //! same answers quickly, so that the bridge can run ahead of the library. `random` makes the cases, each again from its
 //! seed and index. `cases` are texts for `fontcheck` with the line each must give, and `draw` turns a drawn font into
-//! its text.
+//! its text. `cli` puts the command line beside what the model and `lines`, its texts' lines and words, make of the same
+//! files.
 
 // The model counts with remainders, as the papers do.
 #![allow(clippy::manual_is_multiple_of)]
 
 pub mod bridge;
 pub mod cases;
+pub mod cli;
 pub mod compare;
 pub mod draw;
 pub mod fast;
+pub mod lines;
 pub mod model;
 pub mod parts;
 pub mod random;

@@ -4,9 +4,7 @@ use std::io::Write;
 use std::process::ExitCode;
 
 fn made_of(file: &str, image: bool) -> Result<Vec<u8>, String> {
-    let bytes = std::fs::read(file).map_err(|error| format!("{file} cannot be read: {error}"))?;
-    let drawing =
-        String::from_utf8(bytes).map_err(|_| format!("{file} is no plain text; save it as UTF-8 or ASCII"))?;
+    let drawing = std::fs::read(file).map_err(|error| format!("{file} cannot be read: {error}"))?;
     let made =
         if image { reference::draw::image(&drawing) } else { reference::draw::text(&drawing).map(String::into_bytes) };
     made.map_err(|complaint| format!("{file}, {complaint}"))

@@ -1,0 +1,401 @@
+//! One run of the program, and what it must come to.
+
+use super::folder::{Folder, Thing, Things};
+use super::program::{End, Ended, Order, Program};
+use std::ffi::OsString;
+
+/// A line of standard error. Where its wording is free, only its start and its end are known, and what it has to name.
+#[derive(Clone, Debug)]
+pub struct Line {
+    pub start: String,
+    pub names: Vec<String>,
+    pub end: String,
+    /// Whether anything may stand between start and end.
+    free: bool,
+}
+
+impl Line {
+    pub fn new(start: impl Into<String>, end: impl Into<String>) -> Self {
+        Line { start: start.into(), names: Vec::new(), end: end.into(), free: true }
+    }
+
+    pub fn exactly(text: impl Into<String>) -> Self {
+        Line { start: text.into(), names: Vec::new(), end: String::new(), free: false }
+    }
+
+    pub fn naming(mut self, what: impl Into<String>) -> Self {
+        self.names.push(what.into());
+        self
+    }
+
+    fn fits(&self, line: &str) -> bool {
+        let rest = line.strip_prefix(self.start.as_str()).and_then(|rest| rest.strip_suffix(self.end.as_str()));
+        rest.is_some_and(|rest| self.free || rest.is_empty())
+            && self.names.iter().all(|name| line.contains(name.as_str()))
+    }
+}
+
+impl std::fmt::Display for Line {
+    fn fmt(&self, out: &mut std::fmt::Formatter) -> std::fmt::Result {
+        write!(out, "{}", self.start)?;
+        for name in &self.names {
+            write!(out, "..{name}")?;
+        }
+        write!(out, "{}{}", if self.free { ".." } else { "" }, self.end)
+    }
+}
+
+/// What standard output must be.
+#[derive(Clone, Debug)]
+pub enum Out {
+    Exactly(Vec<u8>),
+    /// Text that has each of these words.
+    Naming(Vec<String>),
+    /// Empty unless the status is 0.
+    IfDone,
+    Anything,
+}
+
+/// What standard error must be.
+#[derive(Clone, Debug)]
+pub enum Said {
+    Exactly(Vec<u8>),
+    Lines(Vec<Line>),
+    /// More lines may follow.
+    First(Line),
+    /// These lines, or nothing: where either will do.
+    Perhaps(Vec<Line>),
+    /// Not empty unless the status is 0.
+    IfNotDone,
+}
+
+/// What becomes of a file.
+#[derive(Clone, Debug)]
+pub enum Written {
+    Exactly(Vec<u8>),
+    /// This test holds of it if the status is 0; else it is as it was.
+    IfDone(fn(&[u8]) -> bool),
+}
+
+#[derive(Clone, Debug)]
+pub struct Case {
+    pub name: String,
+    pub things: Vec<(String, Thing)>,
+    pub words: Vec<Vec<u8>>,
+    pub input: Option<Vec<u8>>,
+    pub full: bool,
+    /// 0, 1 or 2 if not given.
+    pub status: Option<i32>,
+    pub out: Out,
+    pub said: Said,
+    /// Every file that is new or changed; all else in the folder stays.
+    pub written: Vec<(String, Written)>,
+}
+
+/// A case that is done, says nothing and writes nothing: what differs is added.
+pub fn case(name: &str, words: &str) -> Case {
+    Case {
+        name: name.to_string(),
+        things: Vec::new(),
+        words: words.split(' ').filter(|word| !word.is_empty()).map(|word| word.as_bytes().to_vec()).collect(),
+        input: None,
+        full: false,
+        status: Some(0),
+        out: Out::Exactly(Vec::new()),
+        said: Said::Lines(Vec::new()),
+        written: Vec::new(),
+    }
+}
+
+impl Case {
+    pub fn file(self, name: &str, bytes: impl Into<Vec<u8>>) -> Self {
+        self.thing(name, Thing::file(bytes))
+    }
+
+    pub fn thing(mut self, name: &str, thing: Thing) -> Self {
+        self.things.push((name.to_string(), thing));
+        self
+    }
+
+    pub fn word(mut self, word: impl Into<Vec<u8>>) -> Self {
+        self.words.push(word.into());
+        self
+    }
+
+    pub fn input(mut self, bytes: impl Into<Vec<u8>>) -> Self {
+        self.input = Some(bytes.into());
+        self
+    }
+
+    pub fn full(mut self) -> Self {
+        self.full = true;
+        self
+    }
+
+    pub fn status(mut self, status: i32) -> Self {
+        self.status = Some(status);
+        self
+    }
+
+    pub fn any_status(mut self) -> Self {
+        self.status = None;
+        self
+    }
+
+    pub fn out(mut self, bytes: impl Into<Vec<u8>>) -> Self {
+        self.out = Out::Exactly(bytes.into());
+        self
+    }
+
+    pub fn out_naming(mut self, words: &[&str]) -> Self {
+        self.out = Out::Naming(words.iter().map(|word| word.to_string()).collect());
+        self
+    }
+
+    pub fn out_if_done(mut self) -> Self {
+        self.out = Out::IfDone;
+        self
+    }
+
+    pub fn any_out(mut self) -> Self {
+        self.out = Out::Anything;
+        self
+    }
+
+    /// One more line of standard error.
+    pub fn says(mut self, line: Line) -> Self {
+        match &mut self.said {
+            Said::Lines(lines) => lines.push(line),
+            said => *said = Said::Lines(vec![line]),
+        }
+        self
+    }
+
+    pub fn said(mut self, said: Said) -> Self {
+        self.said = said;
+        self
+    }
+
+    pub fn writes(mut self, name: &str, bytes: impl Into<Vec<u8>>) -> Self {
+        self.written.push((name.to_string(), Written::Exactly(bytes.into())));
+        self
+    }
+
+    pub fn writes_if_done(mut self, name: &str, complete: fn(&[u8]) -> bool) -> Self {
+        self.written.push((name.to_string(), Written::IfDone(complete)));
+        self
+    }
+
+    /// The words as they would be typed.
+    pub fn command(&self) -> String {
+        let words: Vec<String> = self.words.iter().map(|word| typed(word)).collect();
+        let input = if self.input.is_some() { " <stdin.given" } else { "" };
+        format!("dirgeflint {}{}{}", words.join(" "), input, if self.full { " >/dev/full" } else { "" })
+    }
+
+    /// Runs the case in an empty folder; a difference is what was due and what came.
+    pub fn judge(&self, program: &Program, folder: &Folder) -> Result<(), String> {
+        let trouble = |error| format!("the case cannot be run: {error}");
+        for (name, thing) in &self.things {
+            folder.put(name, thing).map_err(trouble)?;
+        }
+        let before = folder.things().map_err(trouble)?;
+        let order = Order { words: &self.words, input: self.input.as_deref(), folder: folder.path(), full: self.full };
+        let ended = program.run(&order).map_err(trouble)?;
+        let after = folder.things().map_err(trouble)?;
+        let differences = [
+            self.judge_end(&ended),
+            self.judge_out(&ended),
+            self.judge_said(&ended),
+            self.judge_things(&ended, before, &after),
+        ];
+        let differences: Vec<String> = differences.into_iter().flatten().collect();
+        if differences.is_empty() {
+            return Ok(());
+        }
+        Err(format!("{}\nit said:\n{}", differences.join("\n"), indented(&shown(&ended.err, 2000))))
+    }
+
+    fn judge_end(&self, ended: &Ended) -> Option<String> {
+        match (ended.end, self.status) {
+            (End::Status(got), Some(due)) if got == due => None,
+            (End::Status(0..=2), None) => None,
+            (End::Status(got), Some(due)) => Some(format!("status {got}, and {due} is due")),
+            (End::Status(got), None) => Some(format!("status {got}, and only 0, 1 and 2 are possible")),
+            (End::Signal(signal), _) => Some(format!("ended by signal {signal}")),
+            (End::Hung, _) => Some("it did not end in time".to_string()),
+        }
+    }
+
+    fn judge_out(&self, ended: &Ended) -> Option<String> {
+        if self.full {
+            return None;
+        }
+        let wrong = match &self.out {
+            Out::Exactly(due) => difference(due, &ended.out),
+            Out::Naming(names) => {
+                let text = String::from_utf8_lossy(&ended.out);
+                let missing: Vec<&str> = names.iter().map(String::as_str).filter(|name| !text.contains(name)).collect();
+                (!missing.is_empty()).then(|| format!("does not name: {}", missing.join(", ")))
+            }
+            Out::IfDone if ended.end != End::Status(0) => difference(b"", &ended.out),
+            Out::IfDone | Out::Anything => None,
+        };
+        wrong.map(|wrong| format!("standard output {wrong}"))
+    }
+
+    fn judge_said(&self, ended: &Ended) -> Option<String> {
+        let wrong = match &self.said {
+            Said::Exactly(due) => difference(due, &ended.err),
+            Said::Lines(due) => lines_differ(due, &ended.err, false),
+            Said::First(due) => lines_differ(std::slice::from_ref(due), &ended.err, true),
+            Said::Perhaps(_) if ended.err.is_empty() => None,
+            Said::Perhaps(due) => lines_differ(due, &ended.err, false),
+            Said::IfNotDone => {
+                (ended.err.is_empty() && ended.end != End::Status(0)).then(|| "is empty, and it failed".to_string())
+            }
+        };
+        wrong.or_else(|| self.unreadable(&ended.err)).map(|wrong| format!("standard error {wrong}"))
+    }
+
+    /// Whatever the input has, a message is for people: printable, in whole lines, not too long.
+    fn unreadable(&self, err: &[u8]) -> Option<String> {
+        // A file's odd name is the user's own.
+        let plain = self.words.iter().flatten().all(|byte| (b' '..=b'~').contains(byte));
+        if !err.is_empty() && !err.ends_with(b"\n") {
+            return Some("does not end with a line's end".to_string());
+        }
+        if plain && err.iter().any(|&byte| byte != b'\n' && !(b' '..=b'~').contains(&byte)) {
+            return Some("has a byte that is not printable".to_string());
+        }
+        let longest = err.split(|&byte| byte == b'\n').map(<[u8]>::len).max().unwrap_or(0);
+        (longest > LONGEST_MESSAGE).then(|| format!("has a line of {longest} bytes"))
+    }
+
+    fn judge_things(&self, ended: &Ended, before: Things, after: &Things) -> Option<String> {
+        let mut due = before;
+        let mut wrong = Vec::new();
+        for (name, written) in &self.written {
+            let got = after.get(&OsString::from(name));
+            let bytes = match written {
+                Written::Exactly(bytes) => bytes.clone(),
+                Written::IfDone(complete) => {
+                    if ended.end != End::Status(0) {
+                        continue;
+                    }
+                    match got {
+                        Some(Thing::File { bytes, .. }) if complete(bytes) => bytes.clone(),
+                        _ => {
+                            wrong.push(format!("{name} is not complete"));
+                            continue;
+                        }
+                    }
+                }
+            };
+            // A file that was there keeps its permissions.
+            let mode = match due.get(&OsString::from(name)) {
+                Some(Thing::File { mode, .. }) => *mode,
+                _ => None,
+            };
+            due.insert(OsString::from(name), Thing::File { bytes, mode });
+        }
+        wrong.extend(things_differ(&due, after));
+        (!wrong.is_empty()).then(|| wrong.join("\n"))
+    }
+}
+
+const LONGEST_MESSAGE: usize = 600;
+
+fn things_differ(due: &Things, got: &Things) -> Vec<String> {
+    let mut wrong = Vec::new();
+    for (name, thing) in due {
+        let name_shown = name.to_string_lossy();
+        match (thing, got.get(name)) {
+            (_, None) => wrong.push(format!("{name_shown} is missing")),
+            (Thing::File { bytes, mode }, Some(Thing::File { bytes: other, mode: other_mode })) => {
+                wrong.extend(difference(bytes, other).map(|what| format!("{name_shown} {what}")));
+                if mode != other_mode {
+                    let (got, due) = (permissions(*other_mode), permissions(*mode));
+                    wrong.push(format!("{name_shown} has {got} permissions, and {due} are due"));
+                }
+            }
+            (due, Some(other)) if due == other => {}
+            (_, Some(_)) => wrong.push(format!("{name_shown} is no longer what it was")),
+        }
+    }
+    let more = got.keys().filter(|name| !due.contains_key(*name));
+    wrong.extend(more.map(|name| format!("{} is left in the folder", name.to_string_lossy())));
+    wrong
+}
+
+fn permissions(mode: Option<u32>) -> String {
+    mode.map_or("the usual".to_string(), |mode| format!("{mode:o}"))
+}
+
+/// Where two outputs part, if they do.
+fn difference(due: &[u8], got: &[u8]) -> Option<String> {
+    if due == got {
+        return None;
+    }
+    let place = due.iter().zip(got).take_while(|(one, other)| one == other).count();
+    let line = due[..place].iter().filter(|&&byte| byte == b'\n').count() + 1;
+    let around = |bytes: &[u8]| {
+        let start = bytes[..place].iter().rposition(|&byte| byte == b'\n').map_or(0, |at| at + 1);
+        shown(&bytes[start.max(place.saturating_sub(100))..], 160)
+    };
+    Some(format!(
+        "differs at byte {place}, in line {line} ({} bytes, and {} are due)\n  due: {}\n  got: {}",
+        got.len(),
+        due.len(),
+        around(due),
+        around(got)
+    ))
+}
+
+fn lines_differ(due: &[Line], err: &[u8], more: bool) -> Option<String> {
+    let text = String::from_utf8_lossy(err);
+    let lines: Vec<&str> = text.lines().collect();
+    let number = lines.len() == due.len() || (more && lines.len() > due.len());
+    if number && due.iter().zip(&lines).all(|(due, line)| due.fits(line)) {
+        return None;
+    }
+    let due: Vec<String> = due.iter().map(|line| format!("  {line}")).collect();
+    let due = if due.is_empty() { "  nothing".to_string() } else { due.join("\n") };
+    Some(format!("is not what is due:\n{due}"))
+}
+
+/// Bytes for a report, cut where they are long.
+fn shown(bytes: &[u8], most: usize) -> String {
+    let cut = if bytes.len() > most { " .." } else { "" };
+    let text: String = bytes[..bytes.len().min(most)]
+        .iter()
+        .map(|&byte| match byte {
+            b'\n' => "\n".to_string(),
+            b' '..=b'~' => char::from(byte).to_string(),
+            _ => format!("\\x{byte:02X}"),
+        })
+        .collect();
+    let text = if most < 1000 { text.replace('\n', "\\n") } else { text };
+    text + cut
+}
+
+fn indented(text: &str) -> String {
+    text.lines().map(|line| format!("  {line}")).collect::<Vec<String>>().join("\n")
+}
+
+/// A word as a shell takes it.
+fn typed(word: &[u8]) -> String {
+    let plain = |byte: &u8| byte.is_ascii_alphanumeric() || b"-_./=,:+".contains(byte);
+    if !word.is_empty() && word.iter().all(plain) {
+        return String::from_utf8_lossy(word).into_owned();
+    }
+    let bytes: String = word
+        .iter()
+        .map(|&byte| match byte {
+            b'\'' | b'\\' => format!("\\{}", char::from(byte)),
+            b' '..=b'~' => char::from(byte).to_string(),
+            _ => format!("\\x{byte:02x}"),
+        })
+        .collect();
+    format!("$'{bytes}'")
+}

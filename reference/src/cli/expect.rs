@@ -1,0 +1,300 @@
+//! The commands as cases: from what a run is given to all that it must print, say and write.
+
+use super::case::{case, Case, Line, Said};
+use super::folder::Thing;
+use super::screen::{screen, Scene, DEFAULTS};
+use super::text::{self, drawing, whole_drawing};
+use super::wave::{events, Wave};
+use crate::draw;
+use crate::model::hex::written_text;
+use crate::model::{image, pulse};
+use crate::parts::Settings;
+
+/// Where the output of a command goes.
+#[derive(Clone, Copy, Debug, PartialEq, Eq)]
+pub enum To {
+    /// Nothing is said about it.
+    Nowhere,
+    /// `-o -`: standard output.
+    Dash,
+    /// `-o out`, a file that is not there yet.
+    New,
+    /// `-o out`, a file that is there.
+    Old,
+}
+
+pub const OUTPUT: &str = "out";
+const OLD: &[u8] = b"what was there before\n";
+
+/// The name of a file in a message.
+fn named(file: &str) -> &str {
+    if file == "-" {
+        "<stdin>"
+    } else {
+        file
+    }
+}
+
+/// Hands a file to the case; `-` is standard input.
+fn given(case: Case, file: &str, bytes: &[u8]) -> Case {
+    if file == "-" {
+        case.input(bytes)
+    } else {
+        case.file(file, bytes)
+    }
+}
+
+fn told(case: Case, to: To) -> Case {
+    match to {
+        To::Nowhere => case,
+        To::Dash => case.word("-o").word("-"),
+        To::New => case.word("-o").word(OUTPUT),
+        To::Old => case.word("-o").word(OUTPUT).thing(OUTPUT, Thing::File { bytes: OLD.to_vec(), mode: Some(0o640) }),
+    }
+}
+
+/// The output of work that is whole.
+fn delivered(case: Case, to: To, bytes: impl Into<Vec<u8>>) -> Case {
+    match to {
+        To::Nowhere | To::Dash => case.out(bytes),
+        To::New | To::Old => case.writes(OUTPUT, bytes),
+    }
+}
+
+fn with_lines(case: Case, lines: Vec<Line>) -> Case {
+    lines.into_iter().fold(case, Case::says)
+}
+
+/// `check`. The texts have the names that the command is given; one that is not there has no bytes.
+pub fn check(name: &str, whole: bool, texts: &[(&str, Option<&[u8]>)]) -> Case {
+    let mut case = case(name, if whole { "check --whole" } else { "check" });
+    let (mut out, mut status) = (String::new(), 0);
+    for &(file, bytes) in texts {
+        case = case.word(file);
+        let Some(bytes) = bytes else {
+            case = case.says(Line::exactly(format!("{file}: cannot be read: No such file or directory")));
+            status = 2;
+            continue;
+        };
+        case = given(case, file, bytes);
+        match text::read(named(file), bytes) {
+            Ok(good) if whole && !good.not_given.is_empty() => {
+                case = with_lines(case, text::partial(named(file), &good, "").into_iter().collect());
+                status = status.max(1);
+            }
+            Ok(good) => {
+                case = with_lines(case, text::warnings(named(file), &good));
+                out += &format!("{}: cells 62 bytes {}\n", named(file), good.count);
+            }
+            Err(line) => {
+                case = case.says(line);
+                status = status.max(1);
+            }
+        }
+    }
+    case.out(out).status(status)
+}
+
+/// Neighbours among the cells, first and last of each run.
+fn runs(cells: &[usize]) -> Vec<(usize, usize)> {
+    let mut runs: Vec<(usize, usize)> = Vec::new();
+    for &cell in cells {
+        match runs.last_mut() {
+            Some((_, last)) if *last + 1 == cell => *last = cell,
+            _ => runs.push((cell, cell)),
+        }
+    }
+    runs
+}
+
+/// Cells as the warning lists them.
+fn listed(cells: &[usize]) -> String {
+    let run = |(first, last): (usize, usize)| match last - first {
+        0 => first.to_string(),
+        _ => format!("{first} to {last}"),
+    };
+    runs(cells).into_iter().map(run).collect::<Vec<String>>().join(", ")
+}
+
+fn missing(file: &str, cells: &[usize]) -> Vec<Line> {
+    if cells.is_empty() {
+        return Vec::new();
+    }
+    let number = cells.len();
+    // Whether one cell is told in the plural, and two neighbours as a run, is left open.
+    if number == 1 || runs(cells).iter().any(|(first, last)| first + 1 == *last) {
+        return vec![Line::new(format!("{file}: warning: {number} cell"), "")];
+    }
+    vec![Line::exactly(format!("{file}: warning: {number} cells are not drawn and are empty: {}", listed(cells)))]
+}
+
+/// `font`.
+pub fn font(name: &str, file: &str, bytes: &[u8], to: To) -> Case {
+    let case = told(given(case(name, "font").word(file), file, bytes), to);
+    match draw::drawn(bytes) {
+        Ok(drawn) => {
+            let case = with_lines(case, missing(named(file), &drawn.missing));
+            delivered(case, to, written_text(&image::of_font(&drawn.font)))
+        }
+        Err(complaint) => case.status(1).says(Line::new(format!("{}:{}: ", named(file), complaint.line), "")),
+    }
+}
+
+/// `show`, of all cells if none is named.
+pub fn show(name: &str, file: &str, bytes: &[u8], cells: &[usize], to: To) -> Case {
+    let case = told(given(case(name, "show").word(file), file, bytes), to);
+    let case = cells.iter().fold(case, |case, cell| case.word(cell.to_string()));
+    match text::read(named(file), bytes) {
+        Ok(good) => {
+            let case = with_lines(case, text::warnings(named(file), &good));
+            let drawing = if cells.is_empty() { whole_drawing(&good.font) } else { drawing(&good.font, cells) };
+            delivered(case, to, drawing)
+        }
+        Err(line) => case.status(1).says(line),
+    }
+}
+
+/// `paint`: the files, the settings, and the words that say these.
+#[derive(Clone, Debug)]
+pub struct Paint<'a> {
+    pub screen: (&'a str, &'a [u8]),
+    pub font: (&'a str, &'a [u8]),
+    pub settings: Settings,
+    pub frame: u32,
+    pub width: Option<u32>,
+    pub lines: Option<u32>,
+    pub text: bool,
+    pub to: To,
+    /// The settings as they are typed.
+    pub words: String,
+}
+
+impl<'a> Paint<'a> {
+    pub fn new(screen: &'a [u8], font: &'a [u8]) -> Self {
+        Paint {
+            screen: ("screen", screen),
+            font: ("font.hex", font),
+            settings: DEFAULTS,
+            frame: 0,
+            width: None,
+            lines: None,
+            text: false,
+            to: To::Nowhere,
+            words: String::new(),
+        }
+    }
+
+    fn bare(&self, name: &str) -> Case {
+        let (screen, font) = (self.screen, self.font);
+        let words = case(name, &self.words).words;
+        let case = case(name, "paint").word(screen.0).word("--font").word(font.0);
+        let case = words.into_iter().fold(case, Case::word);
+        let case = if self.text { case.word("--text") } else { case };
+        told(given(given(case, screen.0, screen.1), font.0, font.1), self.to)
+    }
+
+    pub fn case(&self, name: &str) -> Case {
+        let case = self.bare(name);
+        let (good, words) = match (text::read(named(self.font.0), self.font.1), screen(self.screen.1)) {
+            (Ok(good), Ok(words)) => (good, words),
+            (Err(line), Ok(_)) => return case.status(1).says(line),
+            (Ok(_), Err(line)) => {
+                // Whether the font's text is warned of before that is left open.
+                let line = Line::new(format!("{}:{line}: ", named(self.screen.0)), "");
+                let case = case.status(1);
+                return if good_and_whole(self.font.1) { case.says(line) } else { case.said(Said::IfNotDone) };
+            }
+            (Err(_), Err(_)) => return case.status(1).said(Said::IfNotDone),
+        };
+        let warnings = text::warnings(named(self.font.0), &good);
+        let case = if warnings.is_empty() { case } else { case.said(Said::Perhaps(warnings)) };
+        let &Paint { settings, frame, width, lines, .. } = self;
+        let picture = Scene { words, font: good.font, settings, frame, width, lines }.picture();
+        let picture = picture.expect("settings that are refused are cases by hand");
+        let text = self.text || self.to == To::Nowhere;
+        delivered(case, self.to, if text { picture.text() } else { picture.ppm() })
+    }
+
+    /// A setting that the library refuses.
+    pub fn refused(&self, name: &str, option: &str, number: u32) -> Case {
+        let end = format!(" (refused {number} at 0)");
+        self.bare(name).status(1).says(Line::new(format!("dirgeflint: {option}: "), end))
+    }
+
+    /// Settings that are wrong usage.
+    pub fn misused(&self, name: &str) -> Case {
+        misused(self.bare(name), "paint")
+    }
+}
+
+fn good_and_whole(text: &[u8]) -> bool {
+    text::read("", text).is_ok_and(|good| good.not_given.is_empty())
+}
+
+/// `play`.
+pub fn play(name: &str, file: &str, bytes: &[u8], to: To) -> Case {
+    let case = told(given(case(name, "play").word(file), file, bytes), to);
+    let wave = match events(bytes) {
+        Ok(events) => Wave::of(&events),
+        Err(faults) => {
+            let case = case.status(1);
+            // Which of several faults is told is left open.
+            let &[fault] = faults.as_slice() else {
+                return case.said(Said::IfNotDone);
+            };
+            let end = if fault.refused { " (refused 14 at 0)" } else { "" };
+            return case.says(Line::new(format!("{}:{}: ", named(file), fault.line), end));
+        }
+    };
+    match to {
+        To::Nowhere => case.out(wave.lines()),
+        To::Dash => case.out(wave.vcd()).said(Said::Exactly(wave.lines().into_bytes())),
+        To::New | To::Old => case.out(wave.lines()).writes(OUTPUT, wave.vcd()),
+    }
+}
+
+/// `pulse`, with its numbers as they are typed.
+pub fn pulse(channel: u32, byte: u8, words: &str) -> Case {
+    let case = case(&format!("pulse {words}"), &format!("pulse {words}"));
+    let levels: Vec<bool> = (0..).map_while(|t| pulse::level(channel, byte, t).ok()).collect();
+    if levels.is_empty() {
+        let start = format!("dirgeflint: channel {channel}: ");
+        return case.status(1).says(Line::new(start, " (refused 15 at 0)"));
+    }
+    let high = levels.iter().filter(|&&level| level).count();
+    let drawn: String = levels.iter().map(|&level| if level { '#' } else { '.' }).collect();
+    let clocks = levels.len();
+    case.out(format!("channel {channel} byte {byte}: high for {high} of {clocks} clocks\n{drawn}\n"))
+}
+
+/// Wrong usage of a command.
+pub fn misused(case: Case, command: &str) -> Case {
+    case.status(2).says(Line::new("dirgeflint: ", format!("; try: dirgeflint help {command}")))
+}
+
+#[cfg(test)]
+mod tests {
+    use super::*;
+
+    #[test]
+    fn missing_cells_are_listed_by_runs() {
+        assert_eq!(listed(&[3, 17, 40, 41, 42]), "3, 17, 40 to 42");
+        assert_eq!(listed(&[0]), "0");
+    }
+
+    #[test]
+    fn the_worked_pulse() {
+        let case = pulse(4, 194, "4 194");
+        let due = format!("channel 4 byte 194: high for 2 of 64 clocks\n##{}\n", ".".repeat(62));
+        assert!(matches!(case.out, super::super::case::Out::Exactly(out) if out == due.into_bytes()));
+        assert_eq!(pulse(8, 0, "8 0").status, Some(1));
+    }
+
+    #[test]
+    fn a_file_that_is_not_there_wins_over_a_bad_one() {
+        let texts: [(&str, Option<&[u8]>); 3] = [("a", Some(b"x")), ("b", None), ("-", Some(b":00000001FF"))];
+        let case = check("several", false, &texts);
+        assert_eq!(case.status, Some(2));
+        assert!(matches!(case.out, super::super::case::Out::Exactly(out) if out == b"<stdin>: cells 62 bytes 0\n"));
+    }
+}

@@ -1,0 +1,218 @@
+//! Screens: their words, and the picture that `paint` makes of them.
+
+use crate::lines::{lines, number, words};
+use crate::model::display::{self, cells, WIDEST, WORDS};
+use crate::model::Refusal;
+use crate::parts::{PaintOrder, Settings};
+
+pub const COLOURS: [&str; 8] = ["black", "blue", "green", "cyan", "red", "magenta", "yellow", "white"];
+pub const END: u16 = 1009;
+
+/// A line of a screen or of events without its comment.
+pub fn without_comment(line: &[u8]) -> &[u8] {
+    let end = line.iter().position(|&byte| byte == b';' || byte == b'#').unwrap_or(line.len());
+    &line[..end]
+}
+
+fn at_most(word: &[u8], most: u32) -> Option<u32> {
+    number(word).filter(|&number| number <= most)
+}
+
+fn colour(word: &[u8]) -> Option<u32> {
+    let named = COLOURS.iter().position(|name| name.as_bytes() == word);
+    named.map(|colour| colour as u32).or_else(|| at_most(word, 7))
+}
+
+/// The display word that a line's words say.
+fn display_word(line: &[&[u8]]) -> Option<u32> {
+    let blinks = |last: &[u8]| (last == b"blink").then_some(1);
+    match line {
+        [b"character", cell, of] => Some(16 * at_most(cell, 61)? + 2 * colour(of)?),
+        [b"character", cell, of, last] => Some(16 * at_most(cell, 61)? + 2 * colour(of)? + blinks(last)?),
+        [b"space", of] => Some(16 * 63 + 2 * colour(of)?),
+        [b"return", size, spacing] => {
+            let size = at_most(size, 4).filter(|&size| size >= 1)?;
+            let spacing = at_most(spacing, 12).filter(|spacing| spacing % 4 == 0)?;
+            Some(16 * 62 + 4 * (size - 1) + spacing / 4)
+        }
+        [b"end"] => Some(u32::from(END)),
+        [word] => at_most(word, 1023),
+        _ => None,
+    }
+}
+
+/// The 64 words of a screen, or the number of the line that is wrong.
+pub fn screen(text: &[u8]) -> Result<Vec<u16>, usize> {
+    let mut screen = Vec::new();
+    for (index, line) in lines(text).into_iter().enumerate() {
+        let line = words(without_comment(line));
+        if line.is_empty() {
+            continue;
+        }
+        let word = display_word(&line).filter(|_| screen.len() < WORDS).ok_or(index + 1)?;
+        screen.push(word as u16);
+    }
+    screen.resize(WORDS, END);
+    Ok(screen)
+}
+
+/// What is to be painted.
+#[derive(Clone, Debug)]
+pub struct Scene {
+    pub words: Vec<u16>,
+    pub font: Vec<u16>,
+    pub settings: Settings,
+    pub frame: u32,
+    pub width: Option<u32>,
+    pub lines: Option<u32>,
+}
+
+pub const DEFAULTS: Settings = Settings { on: true, mode: 2, colour: 0, h: 0, v: 0, ratio: 0, frequency: 0 };
+
+#[derive(Clone, Debug, PartialEq, Eq)]
+pub struct Picture {
+    pub width: u32,
+    pub lines: u32,
+    /// The painted bytes, line by line.
+    pub dots: Vec<u8>,
+}
+
+impl Scene {
+    /// How many dots and lines the cells reach. What starts past the last dot or line is not seen, and does not count.
+    fn reach(&self) -> (u32, u32) {
+        let seen =
+            cells(&self.words, &self.settings).into_iter().filter(|cell| cell.left < WIDEST && cell.top < WIDEST);
+        seen.fold((1, 1), |(width, lines), cell| {
+            let (right, bottom) = (cell.left + 12 * cell.size, cell.top + 18 * cell.size);
+            (width.max(right.min(WIDEST)), lines.max(bottom.min(WIDEST)))
+        })
+    }
+
+    pub fn picture(&self) -> Result<Picture, Refusal> {
+        let reach = self.reach();
+        let (width, lines) = (self.width.unwrap_or(reach.0), self.lines.unwrap_or(reach.1));
+        let mut dots = Vec::new();
+        for line in 0..lines {
+            let mut painted = vec![0; width as usize];
+            let (words, font) = (&self.words[..], &self.font[..]);
+            let order = PaintOrder { words, font, settings: self.settings, frame: self.frame, line, width };
+            display::paint(&order, &mut painted)?;
+            dots.extend(painted);
+        }
+        Ok(Picture { width, lines, dots })
+    }
+}
+
+impl Picture {
+    pub fn ppm(&self) -> Vec<u8> {
+        let mut bytes = format!("P6\n{} {}\n255\n", self.width, self.lines).into_bytes();
+        for &dot in &self.dots {
+            let lit = |bit: u8| if dot & bit == bit { 255 } else { 0 };
+            bytes.extend(if dot == 0 { [128; 3] } else { [lit(4), lit(2), lit(1)] });
+        }
+        bytes
+    }
+
+    pub fn text(&self) -> Vec<u8> {
+        let mut bytes = Vec::new();
+        for line in self.dots.chunks(self.width as usize) {
+            bytes.extend(line.iter().map(|&dot| match dot {
+                0 => b' ',
+                dot => b".:+=*%@#"[usize::from(dot - 8)],
+            }));
+            bytes.push(b'\n');
+        }
+        bytes
+    }
+}
+
+#[cfg(test)]
+mod tests {
+    use super::*;
+    use crate::model::image::FONT_ROWS;
+
+    #[test]
+    fn words_by_their_parts() {
+        let text =
+            b"character 0 white\n space\tred ; red\n\r\n# none\nreturn 2 4#\r\ncharacter 61 0x1 blink\nend\n0x3ff";
+        let words = screen(text).unwrap();
+        assert_eq!(words[..6], [14, 1016, 997, 979, 1009, 1023]);
+        assert_eq!(words[6..], [END; 58]);
+        assert_eq!(screen(b""), Ok(vec![END; 64]));
+    }
+
+    #[test]
+    fn wrong_lines_are_counted_from_1() {
+        for wrong in [
+            "character 62 red",
+            "character 0 8",
+            "character 0",
+            "character 0 red blink blink",
+            "character 0 red blinks",
+            "character 0 Red",
+            "character",
+            "space",
+            "space 8",
+            "space 1 blink",
+            "return 0 0",
+            "return 5 0",
+            "return 1 5",
+            "return 1 16",
+            "return 1",
+            "end 1",
+            "1024",
+            "-1",
+            "0x",
+            "End",
+            "14 14",
+            "\0",
+            "\u{e9}",
+        ] {
+            assert_eq!(screen(format!("end\n;\n{wrong}\nend\n").as_bytes()), Err(3), "{wrong}");
+        }
+        assert_eq!(screen("end\n".repeat(64).as_bytes()), Ok(vec![END; 64]));
+        assert_eq!(screen(("end\n".repeat(64) + "\n1009").as_bytes()), Err(66));
+    }
+
+    fn scene(words: &[u16], settings: Settings) -> Scene {
+        let mut all = words.to_vec();
+        all.resize(64, END);
+        let mut font = vec![0; FONT_ROWS];
+        font[0] = 2049;
+        Scene { words: all, font, settings, frame: 0, width: None, lines: None }
+    }
+
+    #[test]
+    fn a_picture_is_as_large_as_its_cells_reach() {
+        let size = |words: &[u16], h, v| {
+            let picture = scene(words, Settings { h, v, ..DEFAULTS }).picture().unwrap();
+            (picture.width, picture.lines)
+        };
+        assert_eq!(size(&[], 0, 0), (1, 1));
+        assert_eq!(size(&[], 9, 9), (1, 1));
+        assert_eq!(size(&[14, 14], 0, 0), (24, 18));
+        assert_eq!(size(&[14, 14], 2, 3), (32, 30));
+        // A return to size 2, spacing 4, and none after it.
+        assert_eq!(size(&[14, 997], 0, 0), (12, 18));
+        assert_eq!(size(&[14, 997, 14], 0, 0), (24, 58));
+        // Size 4, as wide as it goes: 252 and 48 for each.
+        assert_eq!(size(&[[1004].as_slice(), &[14; 16]].concat(), 63, 0), (252 + 16 * 48, 90));
+        assert_eq!(size(&[[1004].as_slice(), &[14; 17]].concat(), 63, 0), (1024, 90));
+        // Rows of size 4 with 12 lines between them: the one at line 954 is cut, the one at 1038 is not seen.
+        assert_eq!(size(&[[1007; 12].as_slice(), &[14]].concat(), 0, 0), (48, 1024));
+        assert_eq!(size(&[[1007; 13].as_slice(), &[14]].concat(), 0, 0), (1, 1));
+    }
+
+    #[test]
+    fn the_worked_line_as_text_and_as_a_picture() {
+        let settings = Settings { colour: 1, ..DEFAULTS };
+        let picture = Scene { width: Some(14), lines: Some(19), ..scene(&[14], settings) }.picture().unwrap();
+        let text = String::from_utf8(picture.text()).unwrap();
+        assert_eq!(text.lines().next(), Some("#::::::::::#  "));
+        assert_eq!(text.lines().nth(18), Some("              "));
+        let ppm = picture.ppm();
+        assert!(ppm.starts_with(b"P6\n14 19\n255\n\xFF\xFF\xFF\0\0\xFF"));
+        assert_eq!(ppm.len(), 13 + 3 * 14 * 19);
+        assert!(ppm.ends_with(&[128; 42]));
+    }
+}

@@ -1,0 +1,252 @@
+//! `paint`: the screen's language, every setting, what is refused, and where the picture goes.
+
+use super::{END_RECORD, SAMPLE_TEXT};
+use crate::cli::case::{case, Case, Line, Said};
+use crate::cli::expect::{Paint, To};
+use crate::cli::screen::COLOURS;
+use crate::parts::Settings;
+
+/// Two rows, three sizes of cell, a background, and something that blinks.
+const SCREEN: &[u8] = b"\
+; a screen
+character 12 white
+character 13 yellow blink   # blinks
+space blue
+character 14 red
+
+return 2 4
+character 1 cyan
+space green
+character 2 magenta blink
+return 1 12
+character 3 black
+end
+character 4 white
+";
+
+fn paint() -> Paint<'static> {
+    Paint::new(SCREEN, SAMPLE_TEXT)
+}
+
+fn screen(name: &str, text: &[u8]) -> Case {
+    Paint::new(text, SAMPLE_TEXT).case(&format!("screen: {name}"))
+}
+
+fn language() -> Vec<Case> {
+    let colours: String = COLOURS.iter().map(|name| format!("character 57 {name}\nspace {name}\n")).collect();
+    let numbers: String = (0..8).map(|number| format!("character 57 {number}\nspace 0x{number}\n")).collect();
+    let sizes: String = (1..5).map(|size| format!("return {size} {}\n14\n", 4 * (size - 1))).collect();
+    vec![
+        screen("as a maker would have it", SCREEN),
+        screen("empty", b""),
+        screen("comments only", b"; nothing\n\n  \t\n# nothing\n"),
+        screen("an end", b"end\n"),
+        screen("words after an end", b"14\nend\n14\n14\n"),
+        screen("colours by name", colours.as_bytes()),
+        screen("colours by number", numbers.as_bytes()),
+        screen("every size and spacing", sizes.as_bytes()),
+        screen("words as they are", b"14\n0x1e\n1016\n997\n0\n0x3FF\n"),
+        screen(
+            "leading zeros",
+            b"014\n0000000000000000000014\n0x000000000000000e\ncharacter 001 007\nreturn 02 04\n0\n",
+        ),
+        screen("CR LF", b"character 1 red\r\nend\r\n"),
+        screen("no last line end", b"character 1 red\nspace blue"),
+        screen("blanks", b"  character\t1   red\tblink \t\n\t\tspace  blue  \n"),
+        screen("comments against words", b"character 1 red;comment\nspace blue#comment\n14;;##\n"),
+        screen("NUL and other bytes in a comment", b"14 ; \0\xFF\x1B\r\n14\n"),
+        screen("64 words", "character 1 red\n".repeat(64).as_bytes()),
+        screen("64 words and comments", ("end\n".repeat(64) + "\n; more\n\n").as_bytes()),
+        screen("rows past the last line", ("return 4 12\n".repeat(40) + "14\n").as_bytes()),
+        screen("a row cut by the last line", ("return 4 12\n".repeat(12) + "14\n").as_bytes()),
+    ]
+}
+
+fn faults() -> Vec<Case> {
+    let mut cases: Vec<Case> = [
+        "character 62 red",
+        "character -1 red",
+        "character 0 8",
+        "character 0 Red",
+        "character 0 purple",
+        "character 0",
+        "character",
+        "character 0 red blinks",
+        "character 0 red blink blink",
+        "character zero red",
+        "space",
+        "space 8",
+        "space red blink",
+        "return",
+        "return 1",
+        "return 0 0",
+        "return 5 0",
+        "return 1 2",
+        "return 1 16",
+        "return 1 0 0",
+        "end 1",
+        "1024",
+        "0x400",
+        "4294967296",
+        "99999999999999999999999999",
+        "0x",
+        "-1",
+        "+1",
+        "1 2",
+        "End",
+        "caracter 1 red",
+        "14\0",
+        "\u{1b}[31m",
+        "\u{e9}",
+    ]
+    .iter()
+    .map(|line| {
+        let text = format!("character 1 red\n\n; words\n{line}\nend\n");
+        let paint = Paint { to: To::Old, ..Paint::new(text.as_bytes(), SAMPLE_TEXT) };
+        paint.case(&format!("screen: {}", line.escape_default()))
+    })
+    .collect();
+    let long = format!("14\n{}\n", "x".repeat(50_000));
+    let full = "end\n".repeat(64) + "\n\n14\n";
+    cases.push(screen("a very long word", long.as_bytes()));
+    cases.push(screen("65 words", full.as_bytes()));
+    cases.push(screen("65 words of one sort", "14\n".repeat(65).as_bytes()));
+    let input = Paint { screen: ("-", b"end\nstop\n"), ..paint() };
+    cases.push(input.case("screen: a fault in standard input"));
+    cases
+}
+
+/// A screen with a setting that is taken.
+fn set(words: &str, change: impl Fn(&mut Paint)) -> Case {
+    let mut paint = Paint { words: words.to_string(), ..paint() };
+    change(&mut paint);
+    paint.case(&format!("paint {words}"))
+}
+
+fn settings() -> Vec<Case> {
+    let with = |words: &str, settings: Settings| set(words, |paint| paint.settings = settings);
+    let plain = paint().settings;
+    let mut cases = vec![
+        with("--off", Settings { on: false, ..plain }),
+        with("--off --mode 3", Settings { on: false, mode: 3, ..plain }),
+        with("--h 63 --v 63", Settings { h: 63, v: 63, ..plain }),
+        with("--h 0x3f", Settings { h: 63, ..plain }),
+        with("--v 2", Settings { v: 2, ..plain }),
+        with("--mode 3 --colour 5 --h 1 --v 1", Settings { mode: 3, colour: 5, h: 1, v: 1, ..plain }),
+        set("--width 1", |paint| paint.width = Some(1)),
+        set("--width 1024", |paint| paint.width = Some(1024)),
+        set("--lines 1", |paint| paint.lines = Some(1)),
+        set("--lines 1024", |paint| paint.lines = Some(1024)),
+        set("--width 30 --lines 40", |paint| (paint.width, paint.lines) = (Some(30), Some(40))),
+        set("--width 0x20", |paint| paint.width = Some(32)),
+        set("--frame 4294967295", |paint| paint.frame = u32::MAX),
+        set("--frame 12", |paint| paint.frame = 12),
+        set("--frame 11", |paint| paint.frame = 11),
+    ];
+    for mode in 0..4 {
+        cases.push(with(&format!("--mode {mode}"), Settings { mode, ..plain }));
+        cases.push(with(&format!("--mode {mode} --colour cyan"), Settings { mode, colour: 3, ..plain }));
+    }
+    for (number, name) in COLOURS.iter().enumerate() {
+        let colour = number as u32;
+        cases.push(with(&format!("--colour {name}"), Settings { colour, ..plain }));
+        cases.push(with(&format!("--colour {number}"), Settings { colour, ..plain }));
+    }
+    for (ratio, frequency, frame) in
+        [(0, 1, 23), (0, 1, 24), (1, 0, 7), (1, 0, 8), (2, 3, 31), (2, 3, 32), (1, 2, 31), (1, 2, 32)]
+    {
+        cases.push(set(&format!("--ratio {ratio} --frequency {frequency} --frame {frame}"), |paint| {
+            paint.settings = Settings { ratio, frequency, ..plain };
+            paint.frame = frame;
+        }));
+    }
+    cases
+}
+
+fn refused() -> Vec<Case> {
+    let with = |words: &str| Paint { words: words.to_string(), to: To::Old, ..paint() };
+    let mut cases: Vec<Case> = [
+        ("--mode 4", 1),
+        ("--mode 4294967295", 1),
+        ("--colour 8", 1),
+        ("--h 64", 1),
+        ("--v 64", 1),
+        ("--ratio 4", 1),
+        ("--ratio 3", 2),
+        ("--frequency 4", 1),
+        ("--width 1025", 5),
+        ("--width 4294967295", 5),
+        ("--lines 1025", 5),
+        ("--lines 4294967295", 5),
+    ]
+    .iter()
+    .map(|(words, number)| with(words).refused(&format!("paint {words}"), words, *number))
+    .collect();
+    cases.push(with("--off --ratio 3").refused("paint refused though off", "--ratio 3", 2));
+    cases.push(with("--ratio 3 --h 64").refused("paint: the upper line wins", "--h 64", 1));
+    cases.push(with("--width 1025 --ratio 3").refused("paint: the upper line wins over a width", "--ratio 3", 2));
+    for words in [
+        "--mode x",
+        "--mode -1",
+        "--mode=",
+        "--mode 4294967296",
+        "--colour purple",
+        "--colour Red",
+        "--h 1.5",
+        "--v 0x",
+        "--ratio +1",
+        "--frequency one",
+        "--frame -1",
+        "--frame 4294967296",
+        "--width 0",
+        "--width 0x0",
+        "--width x",
+        "--lines 0",
+        "--lines -1",
+    ] {
+        cases.push(with(words).misused(&format!("paint {words}")));
+    }
+    cases
+}
+
+/// The picture's form, and where it goes.
+fn forms() -> Vec<Case> {
+    let mut cases = Vec::new();
+    for (name, to) in [("", To::Nowhere), (" to -", To::Dash), (" to a new file", To::New), (" over a file", To::Old)] {
+        for (form, text) in [("painted", false), ("painted as text", true)] {
+            cases.push(Paint { to, text, ..paint() }.case(&format!("{form}{name}")));
+        }
+    }
+    let font = ("-", SAMPLE_TEXT);
+    cases.push(Paint { font, to: To::New, ..paint() }.case("the font from standard input"));
+    cases.push(Paint { screen: ("-", SCREEN), to: To::Dash, ..paint() }.case("the screen from standard input"));
+    cases
+}
+
+fn fonts() -> Vec<Case> {
+    let with = |text: &'static [u8]| Paint { font: ("font.hex", text), to: To::Old, ..paint() };
+    let both = Paint { screen: ("screen", b"stop\n"), ..with(b":00000001FE\n") };
+    let none = Line::exactly("none: cannot be read: No such file or directory");
+    vec![
+        with(END_RECORD).case("paint with a partial font"),
+        with(b":00000001FE\n").case("paint with a bad sum"),
+        with(b"").case("paint with an empty text"),
+        with(b":0100120000ED\n:00000001FF\n").case("paint with an image that is no font's"),
+        with(&[b'\n'; 65_536]).case("paint with a text too long"),
+        Paint { font: ("-", b":00000001FE"), ..paint() }.case("paint with a bad text from standard input"),
+        both.case("paint with a bad font and a bad screen"),
+        case("paint a screen that is not there", "paint none --font f.hex -o out")
+            .file("f.hex", SAMPLE_TEXT)
+            .status(2)
+            .says(none.clone()),
+        case("paint with a font that is not there", "paint s --font none -o out")
+            .file("s", SCREEN)
+            .status(2)
+            .says(none),
+        case("paint with neither there", "paint none --font none").status(2).said(Said::IfNotDone),
+    ]
+}
+
+pub fn all() -> Vec<Case> {
+    [language(), faults(), settings(), refused(), forms(), fonts()].concat()
+}

@@ -1,0 +1,194 @@
+//! What the commands say about a font's text, and what `show` prints of it.
+
+use super::case::Line;
+use crate::model::hex;
+use crate::model::image::{self, CELLS, FONT_ROWS, IMAGE_BYTES, ROWS};
+use crate::model::Refusal;
+
+/// The program reads no further: so many bytes are enough to know that a text is too long.
+const MOST_READ: usize = hex::LONGEST_TEXT + 1;
+
+/// A text that the library accepts.
+pub struct Good {
+    pub font: Vec<u16>,
+    pub count: u32,
+    /// The addresses that no record gives.
+    pub not_given: Vec<usize>,
+}
+
+/// The line that has a place of the text, counted from 1.
+fn line_of(text: &[u8], place: usize) -> usize {
+    text[..place].iter().filter(|&&byte| byte == b'\n').count() + 1
+}
+
+/// The last line, which for an empty text is the first.
+fn last_line(text: &[u8]) -> usize {
+    line_of(text, text.len().saturating_sub(1))
+}
+
+/// For each byte of the image the line that gives it, in a text whose records are all in order.
+fn givers(text: &[u8]) -> Vec<Option<usize>> {
+    let mut givers = vec![None; IMAGE_BYTES];
+    for (index, line) in text.split(|&byte| byte == b'\n').enumerate() {
+        let digits = String::from_utf8_lossy(line);
+        let value = |from: usize, to: usize| digits.get(from..to).and_then(|two| usize::from_str_radix(two, 16).ok());
+        // A colon, two digits of length, four of address.
+        let (Some(length), Some(address)) = (value(1, 3), value(3, 7)) else {
+            continue;
+        };
+        for giver in &mut givers[address..address + length] {
+            *giver = Some(index + 1);
+        }
+    }
+    givers
+}
+
+fn refusal_line(name: &str, text: &[u8], refusal: Refusal) -> Line {
+    let Refusal { number, place } = refusal;
+    let at = place as usize;
+    let end = format!(" (refused {number} at {place})");
+    let (line, record) = match number {
+        7 if text.len() > hex::LONGEST_TEXT => return Line::new(format!("{name}: "), end),
+        12 if at == text.len() => (last_line(text), false),
+        12 => (line_of(text, at), false),
+        13 => (givers(text)[at].expect("a byte that is not given is FF"), true),
+        _ => (line_of(text, at), true),
+    };
+    let record = if record { format!("record {line}: ") } else { String::new() };
+    let line = Line::new(format!("{name}:{line}: {record}"), end);
+    match number {
+        12 if at == text.len() => line.naming(":00000001FF"),
+        13 => line.naming(format!("{place:04X}")),
+        _ => line,
+    }
+}
+
+/// Reads a text as `check` does, or gives the line that says why it is refused.
+pub fn read(name: &str, text: &[u8]) -> Result<Good, Line> {
+    let text = &text[..text.len().min(MOST_READ)];
+    let mut image = vec![0; IMAGE_BYTES];
+    let mut font = vec![0; FONT_ROWS];
+    let count = hex::read(text, &mut image).map_err(|refusal| refusal_line(name, text, refusal))?;
+    image::to_font(&image, &mut font).map_err(|refusal| refusal_line(name, text, refusal))?;
+    let not_given = givers(text).iter().enumerate().filter(|(_, giver)| giver.is_none()).map(|(at, _)| at).collect();
+    Ok(Good { font, count, not_given })
+}
+
+/// What an address holds: the row of a cell, or no row.
+fn holder(address: usize) -> String {
+    let (cell, row) = (address % 4096 / 32, address % 32);
+    if cell < CELLS && row < ROWS {
+        format!("cell {cell} row {row}")
+    } else {
+        "no row's".to_string()
+    }
+}
+
+/// What is said of an accepted text that does not give every byte.
+pub fn partial(name: &str, good: &Good, word: &str) -> Option<Line> {
+    let first = *good.not_given.first()?;
+    let number = good.not_given.len();
+    Some(Line::exactly(format!(
+        "{name}: {word}{number} of 8192 bytes are not given; they count as FF, which is lit dots in a row: \
+         first at address {first:04X} ({})",
+        holder(first)
+    )))
+}
+
+/// The lines that a command which only warns has about a text.
+pub fn warnings(name: &str, good: &Good) -> Vec<Line> {
+    partial(name, good, "warning: ").into_iter().collect()
+}
+
+/// One cell as `show` draws it.
+fn drawn_cell(font: &[u16], cell: usize) -> String {
+    let mut drawing = format!("cell {cell:02}\n");
+    for row in &font[ROWS * cell..ROWS * cell + ROWS] {
+        drawing.extend((0..12).rev().map(|bit| if row >> bit & 1 == 1 { '#' } else { '.' }));
+        drawing.push('\n');
+    }
+    drawing
+}
+
+/// What `show` prints of these cells.
+pub fn drawing(font: &[u16], cells: &[usize]) -> String {
+    let cells: Vec<String> = cells.iter().map(|&cell| drawn_cell(font, cell)).collect();
+    cells.join("\n")
+}
+
+pub fn whole_drawing(font: &[u16]) -> String {
+    drawing(font, &(0..CELLS).collect::<Vec<usize>>())
+}
+
+#[cfg(test)]
+mod tests {
+    use super::*;
+    use crate::cases;
+    use crate::draw;
+    use crate::model::hex::written_text;
+    use crate::random::Random;
+
+    fn said(text: &[u8]) -> String {
+        match read("F", text) {
+            Ok(good) => match partial("F", &good, "") {
+                Some(line) => line.to_string(),
+                None => format!("whole {}", good.count),
+            },
+            Err(line) => line.to_string(),
+        }
+    }
+
+    #[test]
+    fn lines_are_counted_from_1() {
+        assert_eq!(said(b""), "F:1: ..:00000001FF.. (refused 12 at 0)");
+        assert_eq!(said(b":0000000000"), "F:1: ..:00000001FF.. (refused 12 at 11)");
+        assert_eq!(said(b":0000000000\n"), "F:1: ..:00000001FF.. (refused 12 at 12)");
+        assert_eq!(said(b":0000000000\n:0000000000\n"), "F:2: ..:00000001FF.. (refused 12 at 24)");
+        assert_eq!(said(b":00000001FF\n\n"), "F:2: .. (refused 12 at 12)");
+        assert_eq!(said(b":0000000000\n\n"), "F:2: record 2: .. (refused 7 at 12)");
+        assert_eq!(said(b":00000001FE"), "F:1: record 1: .. (refused 8 at 0)");
+        assert_eq!(said(&[b'\n'; 65_536]), "F: .. (refused 7 at 0)");
+        assert_eq!(said(&[b'\n'; 65_535]), "F:1: record 1: .. (refused 7 at 0)");
+    }
+
+    #[test]
+    fn a_bit_that_is_missing_is_its_records() {
+        let text = b":0100000000FF\r\n:0200110000FFEE\r\n:0110000000EF\r\n:00000001FF\r\n";
+        assert_eq!(said(text), "F:3: record 3: ..1000.. (refused 13 at 4096)");
+    }
+
+    #[test]
+    fn the_first_byte_not_given_is_named() {
+        let lit = "they count as FF, which is lit dots in a row: first at address";
+        assert_eq!(said(b":00000001FF"), format!("F: 8192 of 8192 bytes are not given; {lit} 0000 (cell 0 row 0)"));
+        let text = written_text(&[0xFF; IMAGE_BYTES]);
+        assert_eq!(said(text.as_bytes()), "whole 8192");
+        let without = |record: usize| [&text[..44 * record], &text[44 * (record + 1)..]].concat();
+        let line = |place| format!("F: 16 of 8192 bytes are not given; {lit} {place}");
+        assert_eq!(said(without(255).as_bytes()), line("0FF0 (no row's)"));
+        assert_eq!(said(without(258).as_bytes()), line("1020 (cell 1 row 0)"));
+        assert_eq!(said(without(379).as_bytes()), line("17B0 (cell 61 row 16)"));
+        assert_eq!(said(without(380).as_bytes()), line("17C0 (no row's)"));
+    }
+
+    #[test]
+    fn every_text_of_the_cases_has_its_line() {
+        for case in cases::all() {
+            let line = case.expected();
+            match read("F", &case.text) {
+                Ok(good) => assert_eq!(format!("cells 62 bytes {}\n", good.count), line, "{}", case.name),
+                Err(said) => assert_eq!(said.end, format!(" ({})", line.trim_end()), "{}", case.name),
+            }
+        }
+    }
+
+    #[test]
+    fn a_drawing_gives_its_font_again() {
+        let mut random = Random::new(9);
+        let font: Vec<u16> = (0..FONT_ROWS).map(|_| random.word() % 4096).collect();
+        let drawing = whole_drawing(&font);
+        assert_eq!(drawing.len(), 62 * (8 + 18 * 13) + 61);
+        assert_eq!(draw::drawn(drawing.as_bytes()).unwrap().font, font);
+        assert!(drawing.starts_with("cell 00\n") && drawing.contains("\n\ncell 61\n"));
+    }
+}
