@@ -1,9 +1,12 @@
 /*
- * bench [PART ..]: measures the library against the baselines of fast.c.
+ * bench [--growth] [PART ..]: measures the library against the baselines of fast.c, and where a call lays bytes also
+ * against a memset of as many.
  *
- * Both sides run in turn in one process, so that whatever else the machine does falls on both alike, and both are
- * called through pointers, so that neither is inlined. A row gives the median of the rounds and the ratio of the best
- * rounds.
+ * The sides run in turn in one process, so that whatever else the machine does falls on all alike, and are called
+ * through pointers, so that none is inlined. The times are processor time, so that a machine that has other work as well
+ * disturbs less. A row has the part, the shape, and the nanoseconds of library, baseline and memset (- where no bytes are
+ * laid), each the median of the rounds, with tabs between. With --growth a row has what grows, its size, and the
+ * library's nanoseconds for one call. `reference/measure` starts this several times.
  */
 #define _POSIX_C_SOURCE 199309L
 #include "dirgeflint.h"
@@ -12,10 +15,10 @@
 #include <stdlib.h>
 #include <time.h>
 
-enum { ROUNDS = 31, PERIOD = 16384, SIDE = 1024, TEXT = 22540 };
+enum { ROUNDS = 11, PERIOD = 16384, SIDE = 1024, TEXT = 22540 };
 
 /* How long one side of one round should take at least, in nanoseconds. */
-static const double ROUND = 4e6;
+static const double ROUND = 2e6;
 
 typedef struct face {
     dirgeflint_answer (*pulse_level)(uint32_t, uint8_t, uint32_t);
@@ -34,8 +37,52 @@ typedef struct face {
     dirgeflint_answer (*image_to_font)(const uint8_t *, size_t, uint16_t *, size_t);
 } face;
 
+/* Calls that lay as many bytes as those of the library, and do nothing else; a text and an image stay, as they are read. */
+static const dirgeflint_answer accepted = { 0, 0, 0 };
+static uint8_t laid[TEXT];
+static uint8_t *volatile room = laid;
+
+static dirgeflint_answer laid_play(dirgeflint_dac *record, uint32_t clocks, uint8_t *levels, size_t length)
+{
+    (void)record, (void)length;
+    memset(levels, 1, clocks);
+    return accepted;
+}
+
+static dirgeflint_answer laid_paint(const uint16_t *words, size_t words_length, const uint16_t *font,
+                                    size_t font_length, dirgeflint_settings settings, uint32_t at, uint32_t line,
+                                    uint32_t width, uint8_t *dots, size_t length)
+{
+    (void)words, (void)words_length, (void)font, (void)font_length, (void)settings, (void)at, (void)line, (void)length;
+    memset(dots, 8, width);
+    return accepted;
+}
+
+static dirgeflint_answer laid_read(const uint8_t *from, size_t from_length, uint8_t *to, size_t to_length)
+{
+    (void)from, (void)from_length, (void)to;
+    memset(room, 0xFF, to_length);
+    return accepted;
+}
+
+static dirgeflint_answer laid_write(const uint16_t *font, size_t font_length, uint8_t *to, size_t to_length)
+{
+    (void)font, (void)font_length, (void)to;
+    memset(room, '0', to_length);
+    return accepted;
+}
+
+static dirgeflint_answer laid_font(const uint8_t *from, size_t from_length, uint16_t *to, size_t to_length)
+{
+    (void)from, (void)from_length;
+    memset(to, 0, to_length * sizeof *to);
+    return accepted;
+}
+
+enum { LIBRARY, BASELINE, LAID, SIDES };
+
 /* Not constant, so that the compiler cannot see through the calls. */
-static face sides[2] = {
+static face sides[SIDES] = {
     { dirgeflint_pulse_level,
       dirgeflint_dac_reset, dirgeflint_dac_write_low, dirgeflint_dac_write_high, dirgeflint_dac_play,
       dirgeflint_port_reset, dirgeflint_port_write_address, dirgeflint_port_write_attribute,
@@ -47,9 +94,10 @@ static face sides[2] = {
       fast_port_reset, fast_port_write_address, fast_port_write_attribute, fast_port_write_character,
       fast_paint,
       fast_hex_read, fast_hex_write, fast_image_to_font },
+    { .dac_play = laid_play, .paint = laid_paint,
+      .hex_read = laid_read, .hex_write = laid_write, .image_to_font = laid_font },
 };
-static face *volatile library = &sides[0];
-static face *volatile baseline = &sides[1];
+static face *volatile side[SIDES] = { &sides[LIBRARY], &sides[BASELINE], &sides[LAID] };
 
 /* What a shape leaves behind, so that no work can be left out. */
 static volatile uint32_t seen;
@@ -59,6 +107,7 @@ typedef struct shape {
     const char *name;
     void (*work)(const face *, int);
     int size;
+    int sides; /* SIDES if a memset can stand beside it, else LAID */
 } shape;
 
 static void pulse(const face *f, int size)
@@ -154,6 +203,23 @@ static void full(const face *f, int size)
     frame(f, words);
 }
 
+/* As many lines, all through one row that fills the line at the size. */
+static void cut(const face *f, int size)
+{
+    static uint8_t dots[SIDE];
+    static const uint16_t *font;
+    dirgeflint_settings settings = { true, 3, 1, 0, 0, 1, 0 };
+    uint16_t words[64];
+    if (font == NULL)
+        font = some_font();
+    words[0] = dirgeflint_return((uint32_t)size, 0);
+    for (int i = 1; i < 64; i++)
+        words[i] = dirgeflint_character((uint32_t)i % 62, 5, false);
+    for (uint32_t line = 0; line < SIDE; line++)
+        f->paint(words, 64, font, 1116, settings, 5, 18 + line % (18 * (uint32_t)size), SIDE, dots, SIDE);
+    seen = dots[9];
+}
+
 static uint8_t text[TEXT];
 static uint8_t image[8192];
 
@@ -179,25 +245,97 @@ static void image_to_font(const face *f, int size)
 }
 
 static const shape shapes[] = {
-    { "pulse", "768 calls: each channel's period", pulse, 0 },
-    { "dac", "a period in one call", dac, PERIOD },
-    { "dac", "a period in calls of 128 clocks", dac, 128 },
-    { "dac", "a period in calls of 7 clocks", dac, 7 },
-    { "dac", "a period in calls of 1 clock", dac, 1 },
-    { "dac", "a reset and 500 pairs written", dac_writes, 500 },
-    { "port", "130 calls: the whole RAM written", port, 0 },
-    { "paint", "a frame of 1024 x 1024, sparse, size 1", sparse, 1 },
-    { "paint", "a frame of 1024 x 1024, full, size 1", full, 1 },
-    { "paint", "a frame of 1024 x 1024, sparse, size 2", sparse, 2 },
-    { "paint", "a frame of 1024 x 1024, full, size 2", full, 2 },
-    { "paint", "a frame of 1024 x 1024, sparse, size 3", sparse, 3 },
-    { "paint", "a frame of 1024 x 1024, full, size 3", full, 3 },
-    { "paint", "a frame of 1024 x 1024, sparse, size 4", sparse, 4 },
-    { "paint", "a frame of 1024 x 1024, full, size 4", full, 4 },
-    { "hex", "write a font's text", hex_write, 0 },
-    { "hex", "read a font's text", hex_read, 0 },
-    { "hex", "image to font", image_to_font, 0 },
-    { NULL, NULL, NULL, 0 },
+    { "pulse", "768 calls: each channel's period", pulse, 0, LAID },
+    { "dac", "a period in one call", dac, PERIOD, SIDES },
+    { "dac", "a period in calls of 128 clocks", dac, 128, SIDES },
+    { "dac", "a period in calls of 7 clocks", dac, 7, SIDES },
+    { "dac", "a period in calls of 1 clock", dac, 1, SIDES },
+    { "dac", "a reset and 500 pairs written", dac_writes, 500, LAID },
+    { "port", "130 calls: the whole RAM written", port, 0, LAID },
+    { "paint", "a frame of 1024 x 1024, sparse, size 1", sparse, 1, SIDES },
+    { "paint", "a frame of 1024 x 1024, sparse, size 2", sparse, 2, SIDES },
+    { "paint", "a frame of 1024 x 1024, sparse, size 3", sparse, 3, SIDES },
+    { "paint", "a frame of 1024 x 1024, sparse, size 4", sparse, 4, SIDES },
+    { "paint", "a frame of 1024 x 1024, full, size 1", full, 1, SIDES },
+    { "paint", "a frame of 1024 x 1024, full, size 2", full, 2, SIDES },
+    { "paint", "a frame of 1024 x 1024, full, size 3", full, 3, SIDES },
+    { "paint", "a frame of 1024 x 1024, full, size 4", full, 4, SIDES },
+    { "paint", "1,024 lines, all through cells of size 1", cut, 1, SIDES },
+    { "paint", "1,024 lines, all through cells of size 2", cut, 2, SIDES },
+    { "paint", "1,024 lines, all through cells of size 3", cut, 3, SIDES },
+    { "paint", "1,024 lines, all through cells of size 4", cut, 4, SIDES },
+    { "hex", "a font's text written", hex_write, 0, SIDES },
+    { "hex", "a font's text read", hex_read, 0, SIDES },
+    { "hex", "image to font", image_to_font, 0, SIDES },
+    { NULL, NULL, NULL, 0, 0 },
+};
+
+/* One play of `size` clocks, from wherever the last one ended. */
+static void one_play(const face *f, int size)
+{
+    static uint8_t levels[PERIOD];
+    static dirgeflint_dac record = { 0, { 37, 91 }, { 37, 91 }, { 37, 91 } };
+    f->dac_play(&record, (uint32_t)size, levels, sizeof levels);
+    seen = levels[0];
+}
+
+/* One line through a row of `cells` cells of size 1, then an end. */
+static void one_line(const face *f, uint32_t width, int cells)
+{
+    static uint8_t dots[SIDE];
+    static const uint16_t *font;
+    dirgeflint_settings settings = { true, 3, 1, 0, 0, 1, 0 };
+    uint16_t words[64];
+    if (font == NULL)
+        font = some_font();
+    for (int i = 0; i < 64; i++)
+        words[i] = i < cells ? dirgeflint_character((uint32_t)i % 62, 5, false) : dirgeflint_end();
+    f->paint(words, 64, font, 1116, settings, 5, 9, width, dots, SIDE);
+    seen = dots[9];
+}
+
+static void one_width(const face *f, int size)
+{
+    one_line(f, (uint32_t)size, 64);
+}
+
+static void one_row(const face *f, int size)
+{
+    one_line(f, SIDE, size);
+}
+
+/* Reads `size` data records of a font's text, and the end record. */
+static void one_read(const face *f, int size)
+{
+    static uint8_t some[TEXT];
+    static int made;
+    size_t length = 44 * (size_t)size;
+    if (made != size + 1) {
+        memcpy(some, text, length);
+        memcpy(some + length, text + TEXT - 12, 12);
+        made = size + 1;
+    }
+    seen = f->hex_read(some, length + 12, image, sizeof image).value;
+}
+
+static const shape growth[] = {
+    { "dac", "play, by clocks", one_play, 1, BASELINE },
+    { "dac", "play, by clocks", one_play, 7, BASELINE },
+    { "dac", "play, by clocks", one_play, 128, BASELINE },
+    { "dac", "play, by clocks", one_play, 1024, BASELINE },
+    { "dac", "play, by clocks", one_play, 16384, BASELINE },
+    { "paint", "paint 64 cells, by dots", one_width, 0, BASELINE },
+    { "paint", "paint 64 cells, by dots", one_width, 64, BASELINE },
+    { "paint", "paint 64 cells, by dots", one_width, 256, BASELINE },
+    { "paint", "paint 64 cells, by dots", one_width, 1024, BASELINE },
+    { "paint", "paint 1,024 dots, by cells", one_row, 0, BASELINE },
+    { "paint", "paint 1,024 dots, by cells", one_row, 16, BASELINE },
+    { "paint", "paint 1,024 dots, by cells", one_row, 64, BASELINE },
+    { "hex", "read, by data records", one_read, 0, BASELINE },
+    { "hex", "read, by data records", one_read, 32, BASELINE },
+    { "hex", "read, by data records", one_read, 128, BASELINE },
+    { "hex", "read, by data records", one_read, 512, BASELINE },
+    { NULL, NULL, NULL, 0, 0 },
 };
 
 /* The side that is checked before it is timed, and the number of its latest refusal. */
@@ -258,7 +396,7 @@ static void check(const shape *s, const face *f)
     s->work(&through, s->size);
     if (refused != 0) {
         fprintf(stderr, "bench: %s, %s: the %s refuses with %u\n", s->part, s->name,
-                f == library ? "library" : "baseline", (unsigned)refused);
+                f == side[LIBRARY] ? "library" : "baseline", (unsigned)refused);
         exit(1);
     }
 }
@@ -267,10 +405,10 @@ static void check(const shape *s, const face *f)
 static double timed(const shape *s, const face *f, long repeats)
 {
     struct timespec from, to;
-    clock_gettime(CLOCK_MONOTONIC, &from);
+    clock_gettime(CLOCK_PROCESS_CPUTIME_ID, &from);
     for (long i = 0; i < repeats; i++)
         s->work(f, s->size);
-    clock_gettime(CLOCK_MONOTONIC, &to);
+    clock_gettime(CLOCK_PROCESS_CPUTIME_ID, &to);
     return ((double)(to.tv_sec - from.tv_sec) * 1e9 + (double)(to.tv_nsec - from.tv_nsec)) / (double)repeats;
 }
 
@@ -288,29 +426,38 @@ static int by_size(const void *a, const void *b)
     return (x > y) - (x < y);
 }
 
-static void race(const shape *s)
+/* The median time of each side of the shape, over rounds in which they take turns. */
+static void race(const shape *s, double medians[SIDES])
 {
-    double times[2][ROUNDS];
-    const face *side[2] = { library, baseline };
-    long repeats[2];
-    for (int i = 0; i < 2; i++)
+    double times[SIDES][ROUNDS];
+    long repeats[SIDES];
+    for (int i = 0; i < s->sides; i++)
         check(s, side[i]);
-    for (int i = 0; i < 2; i++)
+    for (int i = 0; i < s->sides; i++)
         repeats[i] = repeats_for(s, side[i]);
     for (int round = 0; round < ROUNDS; round++)
-        for (int i = 0; i < 2; i++)
+        for (int i = 0; i < s->sides; i++)
             times[i][round] = timed(s, side[i], repeats[i]);
-    for (int i = 0; i < 2; i++)
+    for (int i = 0; i < s->sides; i++) {
         qsort(times[i], ROUNDS, sizeof times[i][0], by_size);
-    double ours = times[0][ROUNDS / 2], theirs = times[1][ROUNDS / 2];
-    printf("%-6s %-40s %14.1f %14.1f %8.2f %10.2f\n", s->part, s->name, ours, theirs, ours / theirs,
-           times[0][0] / times[1][0]);
-    fflush(stdout);
+        medians[i] = times[i][ROUNDS / 2];
+    }
 }
 
-int main(int count, char **parts)
+static bool wanted(const char *part, int count, char **parts)
 {
-    for (int i = 1; i < count; i++) {
+    bool named = count == 0;
+    for (int i = 0; i < count; i++)
+        named = named || strcmp(part, parts[i]) == 0;
+    return named;
+}
+
+int main(int count, char **words)
+{
+    bool grow = count > 1 && strcmp(words[1], "--growth") == 0;
+    char **parts = words + (grow ? 2 : 1);
+    count -= grow ? 2 : 1;
+    for (int i = 0; i < count; i++) {
         const shape *s = shapes;
         while (s->part != NULL && strcmp(s->part, parts[i]) != 0)
             s++;
@@ -319,16 +466,23 @@ int main(int count, char **parts)
             return 2;
         }
     }
-    printf("%-6s %-40s %14s %14s %8s %10s\n", "part", "shape", "library ns", "baseline ns", "ratio", "best ratio");
     /* So that reading has a text and an image even if the shapes before it are not run. */
-    hex_write(baseline, 0);
-    hex_read(baseline, 0);
-    for (const shape *s = shapes; s->part != NULL; s++) {
-        bool wanted = count == 1;
-        for (int i = 1; i < count; i++)
-            wanted = wanted || strcmp(s->part, parts[i]) == 0;
-        if (wanted)
-            race(s);
+    hex_write(side[BASELINE], 0);
+    hex_read(side[BASELINE], 0);
+    for (const shape *s = grow ? growth : shapes; s->part != NULL; s++) {
+        double medians[SIDES];
+        if (!wanted(s->part, count, parts))
+            continue;
+        race(s, medians);
+        if (grow)
+            printf("%s\t%d\t%.1f\n", s->name, s->size, medians[LIBRARY]);
+        else {
+            printf("%s\t%s\t%.1f\t%.1f\t", s->part, s->name, medians[LIBRARY], medians[BASELINE]);
+            if (s->sides == SIDES)
+                printf("%.1f\n", medians[LAID]);
+            else
+                puts("-");
+        }
     }
     return 0;
 }

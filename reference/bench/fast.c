@@ -1,7 +1,8 @@
 /*
- * Baselines for the measurements: the library's calls written for speed, in C, so that both run on the same processor
- * or the same emulator. They have the library's names with `fast` for `dirgeflint`; `reference/compare --baseline` puts
- * them beside the model. Included by the files that need them, after the header.
+ * Baselines for the measurements: the library's calls written for speed, in C, with the same checks. They have the
+ * library's names with `fast` for `dirgeflint`; `reference/compare --baseline` puts them beside the model. Plain C, no
+ * instruction of any one processor, but loops that a compiler can turn into vectors, and words of eight bytes where that
+ * is quicker; those count on little-endian memory. Included by the files that need them, after the header.
  */
 #include <string.h>
 
@@ -25,33 +26,45 @@ static dirgeflint_answer fast_answer(uint32_t number, uint32_t place, uint32_t v
     return answer;
 }
 
-static void fast_reduce(dirgeflint_dac *dac)
+/*
+ * The running record as one word: the position in bits 0 to 15, then held, completed and in force, 16 bits each, the
+ * coarse half below the fine one.
+ */
+static const uint64_t fast_kept = 0x7F7F7F7F7F7F3FFFu;
+
+static uint64_t fast_load(const dirgeflint_dac *dac)
 {
-    dac->position &= 16383;
-    dac->held.coarse &= 127;
-    dac->held.fine &= 127;
-    dac->completed.coarse &= 127;
-    dac->completed.fine &= 127;
-    dac->in_force.coarse &= 127;
-    dac->in_force.fine &= 127;
+    uint64_t all;
+    memcpy(&all, dac, sizeof all);
+    return all & fast_kept;
+}
+
+static void fast_store(dirgeflint_dac *dac, uint64_t all)
+{
+    memcpy(dac, &all, sizeof all);
 }
 
 static void fast_dac_reset(dirgeflint_dac *dac)
 {
-    memset(dac, 0, sizeof *dac);
+    fast_store(dac, 0);
 }
 
 static void fast_dac_write_low(dirgeflint_dac *dac, uint8_t byte)
 {
-    fast_reduce(dac);
-    dac->held.fine = byte & 127;
+    fast_store(dac, (fast_load(dac) & ~(uint64_t)0xFF000000) | (uint64_t)(byte & 127) << 24);
 }
 
 static void fast_dac_write_high(dirgeflint_dac *dac, uint8_t byte)
 {
-    fast_reduce(dac);
-    dac->held.coarse = byte & 127;
-    dac->completed = dac->held;
+    uint64_t all = (fast_load(dac) & ~(uint64_t)0xFF0000) | (uint64_t)(byte & 127) << 16;
+    fast_store(dac, (all & ~(uint64_t)0xFFFF00000000) | (all << 16 & (uint64_t)0xFFFF00000000));
+}
+
+/* One more for a sub-period that the fine half picks: its lowest set bit, turned round, is the fine bit that serves it. */
+static uint32_t fast_high(uint64_t all, uint32_t sub)
+{
+    uint32_t coarse = (uint32_t)(all >> 48 & 127), fine = (uint32_t)(all >> 56);
+    return coarse + (fine * (sub & -sub) >> 6 & 1);
 }
 
 static dirgeflint_answer fast_dac_play(dirgeflint_dac *dac, uint32_t clocks, uint8_t *levels, size_t levels_length)
@@ -60,28 +73,31 @@ static dirgeflint_answer fast_dac_play(dirgeflint_dac *dac, uint32_t clocks, uin
         return fast_answer(14, 0, 0);
     if (clocks == 0)
         return fast_answer(0, 0, 0);
-    fast_reduce(dac);
-    uint32_t position = dac->position;
+    uint64_t all = fast_load(dac);
+    uint32_t position = all & 16383;
     while (clocks != 0) {
         if (position == 0)
-            dac->in_force = dac->completed;
+            all = (all & 0x0000FFFFFFFFFFFFu) | all << 16 >> 48 << 48;
         uint32_t clock = position & 127;
-        uint32_t run = clocks < 128 - clock ? clocks : 128 - clock;
-        /* The lowest set bit of the sub-period, turned round, is the fine bit that serves it; 0 has none. */
-        uint32_t sub = position >> 7;
-        uint32_t lowest = sub & -sub;
-        uint32_t added = lowest != 0 && (dac->in_force.fine * lowest & 64) != 0;
-        uint32_t high = dac->in_force.coarse + added;
-        high = high > clock ? high - clock : 0;
-        if (high > run)
-            high = run;
-        memset(levels, 1, high);
-        memset(levels + high, 0, run - high);
-        levels += run;
-        clocks -= run;
-        position = (position + run) & 16383;
+        /* Bit 7 of a count from here down is the level: it is set as long as the clock is below the number of high ones. */
+        if (clock == 0)
+            for (; clocks >= 128 && position < 16384; clocks -= 128, position += 128, levels += 128) {
+                uint8_t count = (uint8_t)(127 + fast_high(all, position >> 7));
+                for (int i = 0; i < 128; i++)
+                    levels[i] = count-- >> 7;
+            }
+        if (position < 16384) {
+            uint32_t run = clocks < 128 - clock ? clocks : 128 - clock;
+            uint8_t count = (uint8_t)(127 + fast_high(all, position >> 7) - clock);
+            for (uint32_t i = 0; i < run; i++)
+                levels[i] = count-- >> 7;
+            levels += run;
+            clocks -= run;
+            position += run;
+        }
+        position &= 16383;
     }
-    dac->position = (uint16_t)position;
+    fast_store(dac, (all & ~(uint64_t)0xFFFF) | position);
     return fast_answer(0, 0, 0);
 }
 
@@ -119,35 +135,114 @@ static void fast_port_write_character(dirgeflint_port *port, uint8_t byte)
     port->address = (port->address + 1) & 63;
 }
 
+/* Every bit that is set in one of the numbers, over four of them at once. */
+static uint16_t fast_all(const uint16_t *numbers, size_t quarter)
+{
+    const uint16_t *b = numbers + quarter, *c = b + quarter, *d = c + quarter;
+    uint16_t all = 0;
+    for (size_t i = 0; i < quarter; i++)
+        all |= (uint16_t)((numbers[i] | b[i]) | (c[i] | d[i]));
+    return all;
+}
+
 static bool fast_is_font(const uint16_t *font, size_t font_length)
 {
-    uint32_t all = 0;
-    if (font_length != 1116)
-        return false;
-    for (size_t i = 0; i < 1116; i++)
-        all |= font[i];
-    return all <= 4095;
+    return font_length == 1116 && fast_all(font, 279) <= 4095;
 }
 
 static uint32_t fast_paint_number(const uint16_t *words, size_t words_length, const uint16_t *font, size_t font_length,
                                   const dirgeflint_settings *s, uint32_t line, uint32_t width, size_t dots_length)
 {
-    uint32_t all = 0;
     if ((s->mode | s->ratio | s->frequency) > 3 || s->colour > 7 || (s->h | s->v) > 63)
         return 1;
     if (s->ratio == 3)
         return 2;
-    if (words_length != 64)
-        return 3;
-    for (int i = 0; i < 64; i++)
-        all |= words[i];
-    if (all > 1023)
+    if (words_length != 64 || fast_all(words, 16) > 1023)
         return 3;
     if (!fast_is_font(font, font_length))
         return 4;
     if (line > 1023 || width > 1024)
         return 5;
     return dots_length < width ? 6 : 0;
+}
+
+/* Eight dots of a row. Each byte of `columns` has one bit, that of the dot's column; `change` is lit and unlit, by exor. */
+static uint64_t fast_dots(uint32_t bits, uint64_t columns, uint8_t unlit, uint8_t change)
+{
+    static const uint64_t ones = 0x0101010101010101u;
+    uint64_t lit = ((bits * ones & columns) + 127 * ones) >> 7 & ones;
+    return unlit * ones ^ lit * change;
+}
+
+static void fast_put_8(uint8_t *to, uint64_t dots)
+{
+    memcpy(to, &dots, 8);
+}
+
+static void fast_put_4(uint8_t *to, uint64_t dots)
+{
+    uint32_t half = (uint32_t)dots;
+    memcpy(to, &half, 4);
+}
+
+/* A cell's row: eight dots at a time of its 12, 24, 36 or 48. */
+static void fast_cell(uint8_t *to, uint32_t size, uint32_t row, uint8_t lit, uint8_t unlit)
+{
+    uint8_t change = lit ^ unlit;
+    uint32_t left = row >> 4, right = row & 15;
+    switch (size) {
+    case 1:
+        fast_put_8(to, fast_dots(left, 0x0102040810204080u, unlit, change));
+        fast_put_4(to + 8, fast_dots(right, 0x01020408u, unlit, change));
+        break;
+    case 2:
+        fast_put_8(to, fast_dots(left, 0x1010202040408080u, unlit, change));
+        fast_put_8(to + 8, fast_dots(left, 0x0101020204040808u, unlit, change));
+        fast_put_8(to + 16, fast_dots(right, 0x0101020204040808u, unlit, change));
+        break;
+    case 3:
+        fast_put_8(to, fast_dots(left, 0x2020404040808080u, unlit, change));
+        fast_put_8(to + 8, fast_dots(left, 0x0408080810101020u, unlit, change));
+        fast_put_8(to + 16, fast_dots(left, 0x0101010202020404u, unlit, change));
+        fast_put_8(to + 24, fast_dots(right, 0x0202040404080808u, unlit, change));
+        fast_put_4(to + 32, fast_dots(right, 0x01010102u, unlit, change));
+        break;
+    default:
+        fast_put_8(to, fast_dots(left, 0x4040404080808080u, unlit, change));
+        fast_put_8(to + 8, fast_dots(left, 0x1010101020202020u, unlit, change));
+        fast_put_8(to + 16, fast_dots(left, 0x0404040408080808u, unlit, change));
+        fast_put_8(to + 24, fast_dots(left, 0x0101010102020202u, unlit, change));
+        fast_put_8(to + 32, fast_dots(right, 0x0404040408080808u, unlit, change));
+        fast_put_8(to + 40, fast_dots(right, 0x0101010102020202u, unlit, change));
+    }
+}
+
+/* The row that a line cuts: its first word, 64 if there is none, and what holds there. */
+typedef struct fast_row {
+    uint32_t word, top, size;
+    uint8_t background;
+} fast_row;
+
+static fast_row fast_find(const uint16_t *words, const dirgeflint_settings *s, uint32_t line)
+{
+    fast_row row = { 0, 4 * s->v, 1, (uint8_t)(8 + s->colour) };
+    if (line < row.top)
+        row.word = 64;
+    while (row.word < 64 && line >= row.top + 18 * row.size) {
+        uint32_t word = words[row.word++];
+        if (word < 62 << 4)
+            continue;
+        if (word < 63 << 4) {
+            row.top += 18 * row.size + 4 * (word & 3);
+            row.size = (word >> 2 & 3) + 1;
+            if (line < row.top)
+                row.word = 64;
+        } else if (word & 1)
+            row.word = 64;
+        else
+            row.background = (uint8_t)(8 + (word >> 1 & 7));
+    }
+    return row;
 }
 
 static dirgeflint_answer fast_paint(const uint16_t *words, size_t words_length, const uint16_t *font,
@@ -157,101 +252,111 @@ static dirgeflint_answer fast_paint(const uint16_t *words, size_t words_length, 
     uint32_t number = fast_paint_number(words, words_length, font, font_length, &s, line, width, dots_length);
     if (number != 0)
         return fast_answer(number, 0, 0);
-    memset(dots, s.on && s.mode == 3 ? (int)(8 + s.colour) : 0, width);
-    if (!s.on)
+    if (!s.on) {
+        memset(dots, 0, width);
         return fast_answer(0, 0, 0);
+    }
+    uint8_t outside = s.mode == 3 ? (uint8_t)(8 + s.colour) : 0, mask = s.mode >= 2 ? 255 : 0;
     uint32_t quarter = 4u << s.frequency;
     bool hidden = (frame & (4 * quarter - 1)) >= (3 - s.ratio) * quarter;
-    uint8_t background = (uint8_t)(8 + s.colour);
-    uint32_t top = 4 * s.v, size = 1, left = 4 * s.h;
-    bool in_row = line >= top && line < top + 18;
-    for (int i = 0; i < 64; i++) {
-        uint32_t code = words[i] >> 4, attributes = words[i] & 15;
-        if (code == 62) {
-            if (in_row)
-                break;
-            top += 18 * size + 4 * (attributes & 3);
-            size = (attributes >> 2) + 1;
-            left = 4 * s.h;
-            if (top > line)
-                break;
-            in_row = line < top + 18 * size;
-            continue;
-        }
+    fast_row row = fast_find(words, &s, line);
+    uint32_t start = 4 * s.h, left = start, cut = row.word < 64 ? (line - row.top) / row.size : 0;
+    for (uint32_t i = row.word; i < 64 && left < width; i++) {
+        uint32_t code = words[i] >> 4, attributes = words[i] & 15, bits = 0;
+        if (code == 62)
+            break;
         if (code == 63) {
             if (attributes & 1)
                 break;
-            background = (uint8_t)(8 + (attributes >> 1));
+            row.background = (uint8_t)(8 + (attributes >> 1));
+        } else if (!(hidden && (attributes & 1)))
+            bits = font[18 * code + cut];
+        uint8_t lit = (uint8_t)(8 + (attributes >> 1)), unlit = row.background & mask;
+        if (left + 12 * row.size <= width)
+            fast_cell(dots + left, row.size, bits, lit, unlit);
+        else {
+            uint8_t whole[48];
+            fast_cell(whole, row.size, bits, lit, unlit);
+            memcpy(dots + left, whole, width - left);
         }
-        if (!in_row)
-            continue;
-        if (left >= width)
-            break;
-        uint32_t end = left + 12 * size < width ? left + 12 * size : width;
-        uint8_t unlit = s.mode >= 2 ? background : 0;
-        uint8_t *dot = dots + left, *stop = dots + end;
-        left += 12 * size;
-        if (code == 63 || (hidden && (attributes & 1))) {
-            memset(dot, unlit, (size_t)(stop - dot));
-            continue;
-        }
-        uint32_t bits = font[18 * code + (line - top) / size];
-        uint8_t lit = (uint8_t)(8 + (attributes >> 1));
-        for (uint32_t bit = 2048; dot < stop; bit >>= 1) {
-            uint8_t byte = bits & bit ? lit : unlit;
-            for (uint32_t n = size; n != 0 && dot < stop; n--)
-                *dot++ = byte;
-        }
+        left += 12 * row.size;
+    }
+    /* No dot is laid twice: outside is filled where no cell is. */
+    if (left == start)
+        memset(dots, outside, width);
+    else {
+        memset(dots, outside, start);
+        if (left < width)
+            memset(dots + left, outside, width - left);
     }
     return fast_answer(0, 0, 0);
 }
 
-static uint8_t fast_value[256];
-static const char fast_digits[] = "0123456789ABCDEF";
-
-/* A byte that is no digit has a value of 128, so that a whole record can be judged by one or. */
-static void fast_prepare(void)
+/* What no digit has: a value of 128, so that a whole record can be judged by one or. */
+static uint8_t fast_digit(uint8_t c)
 {
-    memset(fast_value, 128, sizeof fast_value);
-    for (uint8_t i = 0; i < 16; i++) {
-        fast_value[(uint8_t)fast_digits[i]] = i;
-        if (i > 9)
-            fast_value[(uint8_t)fast_digits[i] + 32] = i;
+    uint8_t decimal = (uint8_t)(c - '0'), letter = (uint8_t)((c | 32) - 'a');
+    return decimal < 10 ? decimal : letter < 6 ? (uint8_t)(letter + 10) : 128;
+}
+
+/* What was found in some bytes of a record: every bit of its digits, and the bytes' sum. */
+typedef struct fast_found {
+    uint8_t bits, sum;
+} fast_found;
+
+static fast_found fast_decode(const uint8_t *restrict text, uint8_t *restrict bytes, size_t count)
+{
+    fast_found found = { 0, 0 };
+    for (size_t i = 0; i < count; i++) {
+        uint8_t high = fast_digit(text[2 * i]), low = fast_digit(text[2 * i + 1]);
+        found.bits |= high | low;
+        bytes[i] = (uint8_t)(high << 4 | low);
+        found.sum = (uint8_t)(found.sum + bytes[i]);
     }
+    return found;
+}
+
+/* The image as far as it is read, and which of its bytes are given. */
+typedef struct fast_draft {
+    uint8_t image[8192], given[8192];
+} fast_draft;
+
+/* Whether none of the bytes was given before. */
+static bool fast_give(fast_draft *restrict draft, size_t address, const uint8_t *restrict bytes, size_t count)
+{
+    uint8_t before = 0;
+    for (size_t i = 0; i < count; i++)
+        before |= draft->given[address + i];
+    memcpy(draft->image + address, bytes, count);
+    memset(draft->given + address, 1, count);
+    return before == 0;
 }
 
 static dirgeflint_answer fast_hex_read(const uint8_t *text, size_t text_length, uint8_t *image, size_t image_length)
 {
-    static uint8_t draft[8192], given[8192];
-    uint8_t bytes[260];
+    static fast_draft draft;
+    uint8_t head[4], data[256];
     uint32_t count = 0;
     size_t at = 0;
     if (image_length < 8192)
         return fast_answer(6, 0, 0);
     if (text_length > 65535)
         return fast_answer(7, 0, 0);
-    if (fast_value['A'] == 0)
-        fast_prepare();
-    memset(draft, 0xFF, sizeof draft);
-    memset(given, 0, sizeof given);
+    memset(draft.image, 0xFF, sizeof draft.image);
+    memset(draft.given, 0, sizeof draft.given);
     while (at < text_length) {
         const uint8_t *line = text + at;
         size_t left = text_length - at;
         uint32_t place = (uint32_t)at;
-        uint8_t sum = 0, bad = 0;
         if (left < 11 || line[0] != ':')
             return fast_answer(7, place, 0);
-        size_t length = (size_t)(fast_value[line[1]] << 4 | fast_value[line[2]]);
-        size_t end = 11 + 2 * length;
-        if (length > 255 || left < end)
+        fast_found found = fast_decode(line + 1, head, 4);
+        size_t length = head[0], end = 11 + 2 * length, next = end;
+        if ((found.bits & 128) || left < end)
             return fast_answer(7, place, 0);
-        for (size_t i = 0; i < length + 5; i++) {
-            uint8_t high = fast_value[line[1 + 2 * i]], low = fast_value[line[2 + 2 * i]];
-            bad |= high | low;
-            bytes[i] = (uint8_t)(high << 4 | low);
-            sum = (uint8_t)(sum + bytes[i]);
-        }
-        size_t next = end;
+        fast_found more = fast_decode(line + 9, data, length);
+        uint8_t high = fast_digit(line[end - 2]), low = fast_digit(line[end - 1]);
+        uint8_t bad = more.bits | high | low, sum = (uint8_t)(found.sum + more.sum + (high << 4 | low));
         if (left > end) {
             if (line[end] == '\n')
                 next = end + 1;
@@ -264,88 +369,103 @@ static dirgeflint_answer fast_hex_read(const uint8_t *text, size_t text_length, 
             return fast_answer(7, place, 0);
         if (sum != 0)
             return fast_answer(8, place, 0);
-        size_t address = (size_t)(bytes[1] << 8 | bytes[2]);
+        size_t address = (size_t)(head[1] << 8 | head[2]);
         at += next;
-        if (bytes[3] == 1 && length == 0 && address == 0) {
+        if (head[3] == 1 && length == 0 && address == 0) {
             if (at < text_length)
                 return fast_answer(12, (uint32_t)at, 0);
-            memcpy(image, draft, sizeof draft);
+            memcpy(image, draft.image, sizeof draft.image);
             return fast_answer(0, 0, count);
         }
-        if (bytes[3] != 0)
+        if (head[3] != 0)
             return fast_answer(9, place, 0);
         if (address + length > 8192)
             return fast_answer(10, place, 0);
-        if (length != 0 && memchr(given + address, 1, length) != NULL)
+        if (!fast_give(&draft, address, data, length))
             return fast_answer(11, place, 0);
-        memset(given + address, 1, length);
-        memcpy(draft + address, bytes + 4, length);
         count += (uint32_t)length;
     }
     return fast_answer(12, (uint32_t)text_length, 0);
 }
 
-static uint8_t *fast_put(uint8_t *text, uint32_t byte)
+static uint8_t *fast_spell(uint8_t *restrict text, const uint8_t *restrict bytes, size_t count)
 {
-    text[0] = (uint8_t)fast_digits[byte >> 4];
-    text[1] = (uint8_t)fast_digits[byte & 15];
-    return text + 2;
+    for (size_t i = 0; i < count; i++) {
+        uint8_t high = bytes[i] >> 4, low = bytes[i] & 15;
+        text[2 * i] = (uint8_t)(high + (high < 10 ? '0' : 'A' - 10));
+        text[2 * i + 1] = (uint8_t)(low + (low < 10 ? '0' : 'A' - 10));
+    }
+    return text + 2 * count;
 }
 
-static dirgeflint_answer fast_hex_write(const uint16_t *font, size_t font_length, uint8_t *text, size_t text_length)
+static void fast_image(const uint16_t *restrict font, uint8_t *restrict image)
 {
-    static uint8_t image[8192];
-    if (!fast_is_font(font, font_length))
-        return fast_answer(4, 0, 0);
-    if (text_length < 22540)
-        return fast_answer(6, 0, 0);
-    memset(image, 0xFF, sizeof image);
+    memset(image, 0xFF, 8192);
     for (size_t cell = 0; cell < 62; cell++)
         for (size_t row = 0; row < 18; row++) {
             image[32 * cell + row] = (uint8_t)font[18 * cell + row];
             image[4096 + 32 * cell + row] = (uint8_t)(font[18 * cell + row] >> 8 | 0xF0);
         }
+}
+
+static dirgeflint_answer fast_hex_write(const uint16_t *font, size_t font_length, uint8_t *text, size_t text_length)
+{
+    uint8_t image[8192];
+    if (!fast_is_font(font, font_length))
+        return fast_answer(4, 0, 0);
+    if (text_length < 22540)
+        return fast_answer(6, 0, 0);
+    fast_image(font, image);
     for (uint32_t address = 0; address < 8192; address += 16) {
-        uint32_t sum = 16 + (address >> 8) + (address & 255);
-        memcpy(text, ":10", 3);
-        text = fast_put(text + 3, address >> 8);
-        text = fast_put(text, address & 255);
-        memcpy(text, "00", 2);
-        text += 2;
-        for (uint32_t i = 0; i < 16; i++) {
-            sum += image[address + i];
-            text = fast_put(text, image[address + i]);
-        }
-        text = fast_put(text, -sum & 255);
+        uint8_t head[4] = { 16, (uint8_t)(address >> 8), (uint8_t)address, 0 };
+        uint8_t sum = (uint8_t)(head[0] + head[1] + head[2]);
+        for (uint32_t i = 0; i < 16; i++)
+            sum = (uint8_t)(sum + image[address + i]);
+        sum = (uint8_t)-sum;
+        *text++ = ':';
+        text = fast_spell(text, head, 4);
+        text = fast_spell(text, image + address, 16);
+        text = fast_spell(text, &sum, 1);
         *text++ = '\n';
     }
     memcpy(text, ":00000001FF\n", 12);
     return fast_answer(0, 0, 0);
 }
 
+static uint8_t fast_due(size_t address)
+{
+    size_t cell = address % 4096 / 32, row = address % 32;
+    return cell >= 62 || row >= 18 ? 0xFF : address < 4096 ? 0 : 0xF0;
+}
+
+/* The bits that every byte has, of so many strides of 32; those of `free` count as had in a cell's rows. */
+static uint8_t fast_held(const uint8_t *image, size_t strides, uint8_t free)
+{
+    uint8_t held = 0xFF;
+    for (size_t stride = 0; stride < strides; stride++)
+        for (size_t i = 0; i < 32; i++)
+            held &= image[32 * stride + i] | (i < 18 ? free : 0);
+    return held;
+}
+
+static void fast_turn(const uint8_t *restrict image, uint16_t *restrict font)
+{
+    for (size_t cell = 0; cell < 62; cell++)
+        for (size_t row = 0; row < 18; row++)
+            font[18 * cell + row] = (uint16_t)((image[4096 + 32 * cell + row] & 15) << 8 | image[32 * cell + row]);
+}
+
 static dirgeflint_answer fast_image_to_font(const uint8_t *image, size_t image_length, uint16_t *font,
                                             size_t font_length)
 {
-    static uint8_t due[8192];
     if (image_length != 8192 || font_length != 1116)
         return fast_answer(13, 0, 0);
-    if (due[8191] == 0) {
-        memset(due, 0xFF, sizeof due);
-        for (size_t cell = 0; cell < 62; cell++) {
-            memset(due + 32 * cell, 0x00, 18);
-            memset(due + 4096 + 32 * cell, 0xF0, 18);
-        }
-    }
-    uint8_t missing = 0;
-    for (size_t i = 0; i < 8192; i++)
-        missing |= (uint8_t)(~image[i] & due[i]);
-    if (missing)
+    uint8_t held = fast_held(image, 62, 0xFF) & fast_held(image + 1984, 66, 0) & fast_held(image + 4096, 62, 0x0F) &
+                   fast_held(image + 4096 + 1984, 66, 0);
+    if (held != 0xFF)
         for (uint32_t i = 0; i < 8192; i++)
-            if (~image[i] & due[i])
+            if (~image[i] & fast_due(i))
                 return fast_answer(13, i, 0);
-    for (size_t cell = 0; cell < 62; cell++)
-        for (size_t row = 0; row < 18; row++)
-            font[18 * cell + row] =
-                (uint16_t)((image[4096 + 32 * cell + row] & 15) << 8 | image[32 * cell + row]);
+    fast_turn(image, font);
     return fast_answer(0, 0, 0);
 }
