@@ -93,8 +93,7 @@ static int play_to_wave(struct player *player, const struct events *events, cons
     player->wave = &wave;
     int status = play_events(player, events);
     end_wave(&wave);
-    int of_file = close_output(&output);
-    return status > of_file ? status : of_file;
+    return close_output(&output, status);
 }
 
 int play_command(int count, char **words)
