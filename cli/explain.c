@@ -96,13 +96,14 @@ static void explain_record(struct slice text, dirgeflint_answer answer, char roo
 
 static int explain_end(const struct input *input, dirgeflint_answer answer)
 {
-    struct slice text = input->text;
+    struct slice text = input->text, line;
+    struct lines after = { without_first(text, answer.place), 0 };
     char follows[SHOWN];
-    if (answer.place < text.length)
-        return refused(input->name, line_number(text, answer.place), answer, "%s follows the end record's line: remove all after it",
-                       shown(without_first(text, answer.place), follows));
+    if (next_line(&after, &line))
+        return refused(input->name, line_number(text, answer.place), answer, "%s follows the end record: remove all after its line",
+                       line.length == 0 ? "an empty line" : shown(line, follows));
     size_t last = text.length == 0 ? 0 : text.length - 1;
-    return refused(input->name, line_number(text, last), answer, "the end record is missing: add the line :00000001FF");
+    return refused(input->name, line_number(text, last), answer, "the end record is missing, so the text may be cut: its last line has to be :00000001FF");
 }
 
 /* Whether the address holds a row's half, and of which row of which cell. */

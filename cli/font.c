@@ -35,7 +35,7 @@ static int write_text(const struct drawing *drawing, const char *path)
     if (!open_output(path, &output))
         return TROUBLE;
     fwrite(text, 1, sizeof text, output.stream);
-    return close_output(&output);
+    return close_output(&output, DONE);
 }
 
 int font_command(int count, char **words)

@@ -97,11 +97,9 @@ static mode_t usual_mode(void)
 /* The owner is kept where that is allowed; it has to come first, as it clears bits of the mode. */
 static bool keep_permissions(int file, const struct stat *old)
 {
-    if (old == NULL)
-        return fchmod(file, usual_mode()) == 0;
-    if (fchown(file, old->st_uid, old->st_gid) == -1 && errno != EPERM)
-        return false;
-    return fchmod(file, old->st_mode & 07777) == 0;
+    if (old != NULL && fchown(file, old->st_uid, old->st_gid) == -1)
+        errno = 0;
+    return fchmod(file, old == NULL ? usual_mode() : old->st_mode & 07777) == 0;
 }
 
 /* Opens the temporary file, named already, for what is to replace old, if there is such a file. */
@@ -171,15 +169,20 @@ static bool close_stream(FILE *stream)
     return !failed;
 }
 
-int close_output(struct output *output)
+/* Puts the temporary file, if there is one, in its place. */
+static bool replace_target(const struct output *output)
+{
+    return output->target == NULL || rename(output->temporary, output->target) == 0;
+}
+
+int close_output(struct output *output, int status)
 {
     if (output->stream == stdout)
-        return DONE; /* finish_output looks at it */
+        return status; /* finish_output looks at it */
     bool written = close_stream(output->stream);
-    if (written && output->target != NULL)
-        written = rename(output->temporary, output->target) == 0;
-    int status = written ? DONE : file_trouble(output->name, "written");
-    if (!written && output->temporary != NULL)
+    if (status == DONE && (!written || !replace_target(output)))
+        status = file_trouble(output->name, "written");
+    if (status != DONE && output->temporary != NULL)
         unlink(output->temporary);
     forget(output);
     return status;

@@ -18,8 +18,11 @@ bool is_standard_output(const char *path);
 /* Opens a file to write to its stream. False, and a message, if it cannot be written. */
 bool open_output(const char *path, struct output *output);
 
-/* Puts the file in its place and gives the status: if writing failed, a message says so and nothing is left of it. */
-int close_output(struct output *output);
+/*
+ * Puts the file in its place if the work's status is DONE, and gives the status that comes of it. Else, or if writing failed, of which a
+ * message tells, nothing is left of the file.
+ */
+int close_output(struct output *output, int status);
 
 /* For main: the three standard files are there and signals leave no temporary file; and at the end all was written. */
 void prepare_output(void);

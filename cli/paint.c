@@ -1,4 +1,3 @@
-#include <errno.h>
 #include <stdlib.h>
 
 #include "commands.h"
@@ -51,7 +50,7 @@ static int read_numbers(const struct option options[OPTIONS], uint32_t numbers[N
     return DONE;
 }
 
-/* What the library says to these numbers, for a screen of ends and an empty font, which it never refuses. */
+/* What the library says to these numbers, with words and a font of zeros, which it never refuses. */
 static dirgeflint_answer try_numbers(const uint32_t numbers[NUMBERS])
 {
     static const uint16_t words[DIRGEFLINT_WORDS], font[DIRGEFLINT_FONT_ROWS];
@@ -90,7 +89,7 @@ static int write_picture(const struct picture *picture, const char *path, bool t
         write_characters(output.stream, picture);
     else
         write_ppm(output.stream, picture);
-    return close_output(&output);
+    return close_output(&output, DONE);
 }
 
 static int paint_scene(const struct scene *scene, struct picture *picture, const char *path, bool text)
@@ -107,6 +106,26 @@ static int paint_scene(const struct scene *scene, struct picture *picture, const
     return status;
 }
 
+/* Reads both files, so that what is wrong with either is told at once. */
+static int read_scene(const char *screen, const char *font_path, struct font *font, struct scene *scene)
+{
+    int of_font = load_font(font_path, false, font), of_screen = read_screen(screen, scene->words);
+    scene->font = font->rows;
+    return of_font > of_screen ? of_font : of_screen;
+}
+
+/* What can be seen to be wrong before any file is read. */
+static int judge_usage(const char *screen, const struct option options[OPTIONS], uint32_t numbers[NUMBERS])
+{
+    const char *font = options[FONT].value;
+    if (font == NULL)
+        return wrong_usage("paint", "paint needs --font FONT.hex");
+    if (is_standard(screen) && is_standard(font))
+        return wrong_usage("paint", "standard input can be the screen or the font, not both");
+    int status = read_numbers(options, numbers);
+    return status == DONE ? judge_numbers(options, numbers) : status;
+}
+
 int paint_command(int count, char **words)
 {
     struct option options[OPTIONS + 1] = {
@@ -121,21 +140,15 @@ int paint_command(int count, char **words)
     int status;
     if (!read_options(&usage, &count, words, &status))
         return status;
-    const char *font_path = options[FONT].value, *path = options[OUTPUT].value;
-    if (font_path == NULL)
-        return wrong_usage("paint", "paint needs --font FONT.hex");
-    if (is_standard(words[0]) && is_standard(font_path))
-        return wrong_usage("paint", "standard input can be the screen or the font, not both");
-    status = read_numbers(options, numbers);
-    if (status == DONE)
-        status = judge_numbers(options, numbers);
+    status = judge_usage(words[0], options, numbers);
     if (status != DONE)
         return status;
     struct font font;
-    struct scene scene = { { 0 }, font.rows, settings_of(numbers, options[OFF].value == NULL), numbers[FRAME] };
+    struct scene scene = { .settings = settings_of(numbers, options[OFF].value == NULL), .frame = numbers[FRAME] };
     struct picture picture = { numbers[WIDTH], numbers[LINES], NULL };
-    int of_font = load_font(font_path, false, &font), of_screen = read_screen(words[0], scene.words);
-    if (of_font != DONE || of_screen != DONE)
-        return of_font > of_screen ? of_font : of_screen;
+    status = read_scene(words[0], options[FONT].value, &font, &scene);
+    if (status != DONE)
+        return status;
+    const char *path = options[OUTPUT].value;
     return paint_scene(&scene, &picture, path, options[TEXT].value != NULL || path == NULL);
 }

@@ -15,7 +15,7 @@ struct player {
     uint64_t period;       /* the number of the period under way, from 1 */
     uint32_t clocks, high; /* of it, so far */
     FILE *lines;           /* where the periods are told */
-    struct wave *wave;     /* NULL if none is asked for */
+    struct wave wave;      /* without a stream if none is asked for */
 };
 
 /* Tells of the period under way, if a clock of it was played, and begins the next. */
@@ -44,8 +44,8 @@ static dirgeflint_answer play_piece(struct player *player, uint32_t clocks)
         return answer;
     for (uint32_t i = 0; i < clocks; i++)
         player->high += levels[i];
-    if (player->wave != NULL)
-        add_to_wave(player->wave, player->dac.in_force, levels, clocks);
+    if (player->wave.stream != NULL)
+        add_to_wave(&player->wave, player->dac.in_force, levels, clocks);
     player->clocks += clocks;
     if (player->clocks == DIRGEFLINT_PERIOD)
         end_period(player);
@@ -86,15 +86,12 @@ static int play_events(struct player *player, const struct events *events)
 static int play_to_wave(struct player *player, const struct events *events, const char *path)
 {
     struct output output;
-    struct wave wave;
     if (!open_output(path, &output))
         return TROUBLE;
-    begin_wave(&wave, output.stream);
-    player->wave = &wave;
+    begin_wave(&player->wave, output.stream);
     int status = play_events(player, events);
-    end_wave(&wave);
-    int of_file = close_output(&output);
-    return status > of_file ? status : of_file;
+    end_wave(&player->wave);
+    return close_output(&output, status);
 }
 
 int play_command(int count, char **words)

@@ -55,5 +55,5 @@ int show_command(int count, char **words)
     if (!open_output(options[0].value, &output))
         return TROUBLE;
     write_cells(output.stream, font.rows, words + 1, count - 1);
-    return close_output(&output);
+    return close_output(&output, DONE);
 }
