@@ -14,14 +14,17 @@ const COLUMNS: usize = 12;
 /// What is wrong with a drawing, and what to do about it.
 #[derive(Clone, Debug, PartialEq, Eq)]
 pub struct Complaint {
-    /// Counted from 1, as editors do.
-    pub line: usize,
+    /// Counted from 1, as editors do; a drawing without a cell has no line to blame.
+    pub line: Option<usize>,
     pub what: String,
 }
 
 impl fmt::Display for Complaint {
     fn fmt(&self, out: &mut fmt::Formatter) -> fmt::Result {
-        write!(out, "line {}: {}", self.line, self.what)
+        if let Some(line) = self.line {
+            write!(out, "line {line}: ")?;
+        }
+        write!(out, "{}", self.what)
     }
 }
 
@@ -81,7 +84,7 @@ pub fn drawn(drawing: &[u8]) -> Result<Drawn, Complaint> {
     let (mut cell, mut rows_due) = (0, 0);
     let lines = lines(drawing);
     for (index, line) in lines.iter().enumerate() {
-        let complain = |what: String| Complaint { line: index + 1, what };
+        let complain = |what: String| Complaint { line: Some(index + 1), what };
         let line = trimmed(line);
         if line.is_empty() || line.starts_with(b";") {
             continue;
@@ -97,12 +100,13 @@ pub fn drawn(drawing: &[u8]) -> Result<Drawn, Complaint> {
             rows_due -= 1;
         }
     }
-    let stopped = |what: String| Err(Complaint { line: lines.len().max(1), what });
     if rows_due > 0 {
-        return stopped(format!("the drawing stops before the last {rows_due} rows of cell {cell}; draw all {ROWS}"));
+        let what = format!("the drawing stops before the last {rows_due} rows of cell {cell}; draw all {ROWS}");
+        return Err(Complaint { line: Some(lines.len()), what });
     }
     if drawn == [false; CELLS] {
-        return stopped("the drawing has no cell; draw at least one, with the heading \"cell NN\"".to_string());
+        let what = "no cell is drawn; draw at least one, with the heading \"cell NN\"".to_string();
+        return Err(Complaint { line: None, what });
     }
     Ok(Drawn { font, missing: (0..CELLS).filter(|&cell| !drawn[cell]).collect() })
 }
@@ -172,8 +176,8 @@ mod tests {
 
     #[test]
     fn complaints_name_the_line_and_the_remedy() {
-        assert!(complaint("").starts_with("line 1: the drawing has no cell"));
-        assert!(complaint("\n; words\n").starts_with("line 2: the drawing has no cell"));
+        assert!(complaint("").starts_with("no cell is drawn"));
+        assert!(complaint("\n; words\n").starts_with("no cell is drawn"));
         assert!(complaint("\n............").starts_with("line 2: the heading of a cell is due"));
         assert!(complaint("cells 00").starts_with("line 1: the heading of a cell is due"));
         for wrong in ["cell", "cell 62", "cell x", "cell 0x1", "cell -1", "cell +1", "cell 4294967296"] {

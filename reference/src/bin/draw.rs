@@ -7,7 +7,7 @@ fn made_of(file: &str, image: bool) -> Result<Vec<u8>, String> {
     let drawing = std::fs::read(file).map_err(|error| format!("{file} cannot be read: {error}"))?;
     let made =
         if image { reference::draw::image(&drawing) } else { reference::draw::text(&drawing).map(String::into_bytes) };
-    made.map_err(|complaint| format!("{file}, {complaint}"))
+    made.map_err(|complaint| format!("{file}: {complaint}"))
 }
 
 fn main() -> ExitCode {

@@ -228,17 +228,21 @@ fn is_wave(bytes: &[u8]) -> bool {
     last.and_then(|line| line.strip_prefix(b"#")).is_some_and(|digits| crate::lines::number(digits).is_some())
 }
 
+type Test = fn(&[u8]) -> bool;
+
+/// The commands with words that do, and the test of their output.
+const COMMANDS: &[(&str, &str, Test)] = &[
+    ("check", "f.hex", |_| false),
+    ("font", "d.txt", is_text),
+    ("show", "f.hex", is_drawing),
+    ("paint", "s --font f.hex", is_picture),
+    ("play", "e", is_wave),
+    ("pulse", "4 194", |_| false),
+];
+
 /// Any words at all, with good files or damaged ones.
 fn words(name: &str, random: &mut Random) -> Case {
-    let commands: [(&str, &str, fn(&[u8]) -> bool); 6] = [
-        ("check", "f.hex", |_| false),
-        ("font", "d.txt", is_text),
-        ("show", "f.hex", is_drawing),
-        ("paint", "s --font f.hex", is_picture),
-        ("play", "e", is_wave),
-        ("pulse", "4 194", |_| false),
-    ];
-    let (command, usual, complete) = random.pick(&commands);
+    let (command, usual, complete) = random.pick(COMMANDS);
     let mut made = case(name, &format!("{command} {usual} -o {OUTPUT}"));
     for _ in 0..random.between(1, 5) {
         let place = random.between(1, made.words.len());

@@ -136,7 +136,10 @@ pub fn font(name: &str, file: &str, bytes: &[u8], to: To) -> Case {
             let case = with_lines(case, missing(named(file), &drawn.missing));
             delivered(case, to, written_text(&image::of_font(&drawn.font)))
         }
-        Err(complaint) => case.status(1).says(Line::new(format!("{}:{}: ", named(file), complaint.line), "")),
+        Err(complaint) => {
+            let line = complaint.line.map_or(String::new(), |line| format!("{line}:"));
+            case.status(1).says(Line::new(format!("{}:{line} ", named(file)), ""))
+        }
     }
 }
 

@@ -1,7 +1,7 @@
 //! `font` and `show`: the sample both ways, cells in any order, drawings with faults.
 
 use super::{with_cr_lf, END_RECORD, SAMPLE_DRAWING, SAMPLE_TEXT};
-use crate::cli::case::{Case, Line, Said};
+use crate::cli::case::{Case, Line};
 use crate::cli::expect::{font, show, To};
 use crate::cli::text;
 
@@ -28,7 +28,7 @@ fn good() -> Vec<Case> {
         ("leading zeros", named("0005").into_bytes()),
         ("tabs", named("\t7\tX").into_bytes()),
         ("blanks after the rows", named("9").replace('\n', " \t\n").into_bytes()),
-        ("odd bytes in a name", [b"cell 4 \xE9\x00\x1B\n".to_vec(), named("")[6..].as_bytes().to_vec()].concat()),
+        ("odd bytes in a name", [b"cell 4 \xE9\x00\x1B\n".to_vec(), named("").as_bytes()[6..].to_vec()].concat()),
         ("comments and empty lines among rows", named("8").replace('\n', "\n\n; words\n \t\n;\n").into_bytes()),
     ];
     let mut cases: Vec<Case> =
@@ -76,15 +76,14 @@ fn faults() -> Vec<Case> {
     ];
     let mut cases: Vec<Case> = drawings.iter().map(|(name, drawing)| font(name, "d.txt", drawing, To::Old)).collect();
     cases.push(font("a fault in standard input", "-", b"cell 00\nx\n", To::Dash));
-    // Which line is to blame where something is missing at the end is left open.
     for (name, drawing) in [
         ("an empty drawing", String::new()),
         ("a drawing of comments", "; one\n\n; two\n".to_string()),
         ("a drawing that stops after a heading", "cell 00\n".to_string()),
         ("a drawing that stops after 17 rows", format!("cell 00\n{}", row.repeat(17))),
+        ("a drawing that stops with other lines", format!("cell 00\n{row}\n; words\n\n")),
     ] {
-        let case = font(name, "d.txt", drawing.as_bytes(), To::Old);
-        cases.push(case.said(Said::Lines(vec![Line::new("d.txt:", "")])));
+        cases.push(font(name, "d.txt", drawing.as_bytes(), To::Old));
     }
     cases
 }
