@@ -73,6 +73,7 @@ static void pulse_level(void)
 
 static dirgeflint_dac dac;
 static uint8_t levels[16384];
+static uint32_t clocks;
 static void dac_reset(void)
 {
     dirgeflint_dac_reset(&dac);
@@ -87,7 +88,7 @@ static void dac_write_high(void)
 }
 static void dac_play(void)
 {
-    dirgeflint_dac_play(&dac, 16384, levels, sizeof levels);
+    dirgeflint_dac_play(&dac, clocks, levels, sizeof levels);
 }
 
 static dirgeflint_port port;
@@ -161,7 +162,12 @@ int main(void)
     report("dirgeflint_dac_write_low");
     measure(dac_write_high);
     report("dirgeflint_dac_write_high");
-    for (dac.position = 0; dac.position < 16384; dac.position += 97)
+    for (uint32_t position = 0; position < 16384; position += 619)
+        for (clocks = 1; clocks <= 16384; clocks *= 7) {
+            dac.position = (uint16_t)position;
+            measure(dac_play);
+        }
+    for (clocks = 16384; clocks > 16380; clocks--)
         measure(dac_play);
     report("dirgeflint_dac_play");
     measure(dac_reset);
