@@ -105,16 +105,15 @@ static bool keep_permissions(int file, const struct stat *old)
 /* Opens the temporary file, named already, for what is to replace old, if there is such a file. */
 static FILE *open_temporary(char *temporary, const struct stat *old)
 {
+    unfinished = temporary; /* before there is such a file, so that no moment is left in which a signal would miss it */
     int file = mkstemp(temporary);
     if (file == -1)
         return NULL;
-    unfinished = temporary;
     FILE *stream = keep_permissions(file, old) ? fdopen(file, "wb") : NULL;
     if (stream == NULL) {
         int reason = errno;
         close(file);
         unlink(temporary);
-        unfinished = NULL;
         errno = reason;
     }
     return stream;

@@ -10,9 +10,8 @@
 #include "say.h"
 #include "screen.h"
 
-/* The options with numbers come first, and of them the library's settings, in the order of the header. */
+/* The options with numbers come first: of several that are refused the first is told. */
 enum { MODE, COLOUR, H, V, RATIO, FREQUENCY, FRAME, WIDTH, LINES, NUMBERS, FONT = NUMBERS, OFF, TEXT, OUTPUT, OPTIONS };
-enum { SETTINGS = FRAME };
 
 static const uint32_t usual[NUMBERS] = { [MODE] = 2 };
 
@@ -97,7 +96,7 @@ static int paint_scene(const struct scene *scene, struct picture *picture, const
     dirgeflint_answer answer = measure(scene, picture);
     picture->dots = malloc((size_t)picture->width * picture->lines);
     if (picture->dots == NULL)
-        return file_trouble(PROGRAM, "painted");
+        return file_trouble("the picture", "painted");
     if (answer.number == DIRGEFLINT_ACCEPTED)
         answer = paint_picture(scene, picture);
     int status = answer.number == DIRGEFLINT_ACCEPTED ? write_picture(picture, path, text)
