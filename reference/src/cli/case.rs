@@ -30,9 +30,19 @@ impl Line {
 
     fn fits(&self, line: &str) -> bool {
         let rest = line.strip_prefix(self.start.as_str()).and_then(|rest| rest.strip_suffix(self.end.as_str()));
-        rest.is_some_and(|rest| self.free || rest.is_empty())
-            && self.names.iter().all(|name| line.contains(name.as_str()))
+        rest.is_some_and(|rest| self.free || rest.is_empty()) && self.names.iter().all(|name| has(line, name))
     }
+}
+
+/// Whether a line has a name, and not as part of a longer word or number.
+fn has(line: &str, name: &str) -> bool {
+    let joined = |one: Option<char>, other: Option<char>| {
+        one.is_some_and(|one| one.is_ascii_alphanumeric()) && other.is_some_and(|other| other.is_ascii_alphanumeric())
+    };
+    line.match_indices(name).any(|(at, _)| {
+        let (before, after) = (&line[..at], &line[at + name.len()..]);
+        !joined(before.chars().last(), name.chars().next()) && !joined(name.chars().last(), after.chars().next())
+    })
 }
 
 impl std::fmt::Display for Line {

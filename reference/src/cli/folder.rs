@@ -73,12 +73,19 @@ impl Folder {
         }
     }
 
-    /// Everything in the folder. Permissions are given where they are not those of any new file.
+    /// Everything in the folder and in those it has. Permissions are given where they are not those of any new file.
     pub fn things(&self) -> io::Result<Things> {
         let mut things = Things::new();
-        for entry in fs::read_dir(&self.path)? {
-            let entry = entry?;
-            things.insert(entry.file_name(), self.thing(&entry.path())?);
+        let mut folders = vec![PathBuf::new()];
+        while let Some(folder) = folders.pop() {
+            for entry in fs::read_dir(self.path.join(&folder))? {
+                let name = folder.join(entry?.file_name());
+                let thing = self.thing(&self.path.join(&name))?;
+                if thing == Thing::Folder {
+                    folders.push(name.clone());
+                }
+                things.insert(name.into_os_string(), thing);
+            }
         }
         Ok(things)
     }

@@ -59,7 +59,7 @@ fn what_is_printed_is_looked_at() {
 #[test]
 fn what_is_said_of_a_refusal_is_looked_at() {
     let case = check("a bad sum", false, &[("a.hex", Some(b":0000000000\n:00000001FE\n"))]);
-    let right = "echo 'a.hex:2: record 2: any words (refused 8 at 12)' >&2; exit 1";
+    let right = "echo 'a.hex:2: record 2: FE, not FF (refused 8 at 12)' >&2; exit 1";
     finds(
         "said",
         &case,
@@ -72,8 +72,10 @@ fn what_is_said_of_a_refusal_is_looked_at() {
             (&right.replace("at 12", "at 11"), "standard error is not what is due"),
             ("exit 1", "standard error is not what is due"),
             (&right.replace(" >&2", ""), "standard output differs"),
-            (&right.replace("any words", "'\"$(printf '\\033')\"'"), "a byte that is not printable"),
-            (&right.replace("any words", &"x".repeat(700)), "has a line of 7"),
+            (&right.replace("not FF", "not FF'\"$(printf '\\033')\"'"), "a byte that is not printable"),
+            (&right.replace("not FF", "not FFF"), "standard error is not what is due"),
+            (&right.replace("FE, ", ""), "standard error is not what is due"),
+            (&right.replace("not FF", &format!("not FF {}", "x".repeat(700))), "has a line of 7"),
             (&format!("echo more >&2; {right}"), "standard error is not what is due"),
         ],
     );

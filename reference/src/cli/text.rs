@@ -1,6 +1,7 @@
 //! What the commands say about a font's text, and what `show` prints of it.
 
 use super::case::Line;
+use crate::lines::lines;
 use crate::model::hex;
 use crate::model::image::{self, CELLS, FONT_ROWS, IMAGE_BYTES, ROWS};
 use crate::model::Refusal;
@@ -43,24 +44,79 @@ fn givers(text: &[u8]) -> Vec<Option<usize>> {
     givers
 }
 
+/// The bytes of a line that has only digits after its colon.
+fn bytes_of(line: &[u8]) -> Vec<u8> {
+    let digits = String::from_utf8_lossy(line.get(1..).unwrap_or_default()).trim_end().to_string();
+    let two = |at: usize| digits.get(at..at + 2).and_then(|two| u8::from_str_radix(two, 16).ok());
+    (0..digits.len()).step_by(2).map_while(two).collect()
+}
+
+/// What is said of a line that has not a record's shape.
+fn shape_names(line: &[u8]) -> Vec<String> {
+    let bad = line.iter().skip(1).position(|byte| !byte.is_ascii_hexdigit());
+    match line {
+        [] => vec!["empty".to_string()],
+        [b':', ..] => match bad {
+            Some(at) => vec![format!("column {}: '", at + 2), "' is no hexadecimal digit".to_string()],
+            None if line.len() % 2 == 0 => vec!["odd".to_string()],
+            None => Vec::new(),
+        },
+        _ => vec!["colon".to_string()],
+    }
+}
+
+/// What a message names of a record beside its number.
+fn record_names(number: u32, line: &[u8], before: &[u8]) -> Vec<String> {
+    if number == 7 {
+        return shape_names(line);
+    }
+    let bytes = bytes_of(line);
+    let (length, address) = (usize::from(bytes[0]), 256 * usize::from(bytes[1]) + usize::from(bytes[2]));
+    let sum = bytes.iter().fold(0u8, |sum, byte| sum.wrapping_add(*byte));
+    let found = bytes[bytes.len() - 1];
+    match number {
+        8 => vec![format!("{found:02X}"), format!("{:02X}", found.wrapping_sub(sum))],
+        9 if bytes[3] > 1 => vec![format!("{:02X}", bytes[3])],
+        9 if address == 0 => vec!["length".to_string()],
+        9 if length == 0 => vec!["address".to_string()],
+        10 => vec![format!("{address:04X}")],
+        11 => {
+            // The lines before this one are in order, so each byte has one giver.
+            let givers = givers(before);
+            let twice = (address..address + length).find(|&at| givers[at].is_some()).unwrap_or(address);
+            vec![format!("{twice:04X}"), format!("line {}", givers[twice].unwrap_or(0))]
+        }
+        _ => Vec::new(),
+    }
+}
+
+/// What a message names of an address that has not the bits of a font's image.
+fn image_names(address: usize) -> Vec<String> {
+    let (cell, row) = (address % 4096 / 32, address % 32);
+    let holder = match (cell < CELLS, row < ROWS) {
+        (true, true) => format!("cell {cell} row {row}"),
+        (true, false) => format!("cell {cell}"),
+        _ => "past the last cell".to_string(),
+    };
+    vec![format!("{address:04X}"), holder]
+}
+
 fn refusal_line(name: &str, text: &[u8], refusal: Refusal) -> Line {
     let Refusal { number, place } = refusal;
     let at = place as usize;
     let end = format!(" (refused {number} at {place})");
-    let (line, record) = match number {
+    let (line, record, names) = match number {
         7 if text.len() > hex::LONGEST_TEXT => return Line::new(format!("{name}: "), end),
-        12 if at == text.len() => (last_line(text), false),
-        12 => (line_of(text, at), false),
-        13 => (givers(text)[at].expect("a byte that is not given is FF"), true),
-        _ => (line_of(text, at), true),
+        12 if at == text.len() => (last_line(text), false, vec![":00000001FF".to_string()]),
+        12 => (line_of(text, at), false, Vec::new()),
+        13 => (givers(text)[at].expect("a byte that is not given is FF"), true, image_names(at)),
+        _ => {
+            let body = lines(&text[at..]).first().copied().unwrap_or_default();
+            (line_of(text, at), true, record_names(number, body, &text[..at]))
+        }
     };
     let record = if record { format!("record {line}: ") } else { String::new() };
-    let line = Line::new(format!("{name}:{line}: {record}"), end);
-    match number {
-        12 if at == text.len() => line.naming(":00000001FF"),
-        13 => line.naming(format!("{place:04X}")),
-        _ => line,
-    }
+    names.into_iter().fold(Line::new(format!("{name}:{line}: {record}"), end), Line::naming)
 }
 
 /// Reads a text as `check` does, or gives the line that says why it is refused.
@@ -145,16 +201,32 @@ mod tests {
         assert_eq!(said(b":0000000000\n"), "F:1: ..:00000001FF.. (refused 12 at 12)");
         assert_eq!(said(b":0000000000\n:0000000000\n"), "F:2: ..:00000001FF.. (refused 12 at 24)");
         assert_eq!(said(b":00000001FF\n\n"), "F:2: .. (refused 12 at 12)");
-        assert_eq!(said(b":0000000000\n\n"), "F:2: record 2: .. (refused 7 at 12)");
-        assert_eq!(said(b":00000001FE"), "F:1: record 1: .. (refused 8 at 0)");
+        assert_eq!(said(b":0000000000\n\n"), "F:2: record 2: ..empty.. (refused 7 at 12)");
+        assert_eq!(said(b":00000001FE"), "F:1: record 1: ..FE..FF.. (refused 8 at 0)");
         assert_eq!(said(&[b'\n'; 65_536]), "F: .. (refused 7 at 0)");
-        assert_eq!(said(&[b'\n'; 65_535]), "F:1: record 1: .. (refused 7 at 0)");
+        assert_eq!(said(&[b'\n'; 65_535]), "F:1: record 1: ..empty.. (refused 7 at 0)");
+    }
+
+    #[test]
+    fn reasons_name_what_is_wrong() {
+        let reason = |text: &[u8]| said(text).replace("F:1: record 1: ..", "");
+        assert_eq!(reason(b":00x0000000\r\n"), "column 4: '..' is no hexadecimal digit.. (refused 7 at 0)");
+        assert_eq!(reason(b":0000000000\r"), "column 12: '..' is no hexadecimal digit.. (refused 7 at 0)");
+        assert_eq!(reason(b"x\n"), "colon.. (refused 7 at 0)");
+        assert_eq!(reason(b":000\r\n"), "odd.. (refused 7 at 0)");
+        assert_eq!(reason(b":0000\r\n"), " (refused 7 at 0)");
+        assert_eq!(reason(b":00000005FB\n"), "05.. (refused 9 at 0)");
+        assert_eq!(reason(b":0100000100FE\n"), "length.. (refused 9 at 0)");
+        assert_eq!(reason(b":00000701F8\n"), "address.. (refused 9 at 0)");
+        assert_eq!(reason(b":0120000000DF\n"), "2000.. (refused 10 at 0)");
+        let twice = b":0100060000F9\n:0100040000FB\n:03000500000000F8\n";
+        assert_eq!(said(twice), "F:3: record 3: ..0006..line 1.. (refused 11 at 28)");
     }
 
     #[test]
     fn a_bit_that_is_missing_is_its_records() {
         let text = b":0100000000FF\r\n:0200110000FFEE\r\n:0110000000EF\r\n:00000001FF\r\n";
-        assert_eq!(said(text), "F:3: record 3: ..1000.. (refused 13 at 4096)");
+        assert_eq!(said(text), "F:3: record 3: ..1000..cell 0 row 0.. (refused 13 at 4096)");
     }
 
     #[test]

@@ -2,7 +2,7 @@
 
 use super::{with_cr_lf, END_RECORD, SAMPLE_TEXT};
 use crate::cases;
-use crate::cli::case::{Case, Line, Said};
+use crate::cli::case::{case, Case, Line, Said};
 use crate::cli::expect::check;
 use crate::cli::folder::Thing;
 use crate::compare::hex::texts::record;
@@ -126,7 +126,7 @@ fn partial() -> Vec<Case> {
 }
 
 fn trouble() -> Vec<Case> {
-    let unreadable = |name: &str, words: &str| crate::cli::case::case(name, words).status(2);
+    let unreadable = |name: &str, words: &str| case(name, words).status(2);
     vec![
         unreadable("a folder", "check folder")
             .thing("folder", Thing::Folder)
@@ -136,6 +136,9 @@ fn trouble() -> Vec<Case> {
         unreadable("a link to nothing", "check link")
             .thing("link", Thing::Link { to: "none".to_string() })
             .says(Line::exactly("link: cannot be read: No such file or directory")),
+        case("a device that never ends", "check /dev/zero")
+            .status(1)
+            .says(Line::new("/dev/zero: ", " (refused 7 at 0)")),
         one("a link to a text", SAMPLE_TEXT).thing("link", Thing::Link { to: "a.hex".to_string() }),
     ]
 }

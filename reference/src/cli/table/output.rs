@@ -33,6 +33,16 @@ fn places() -> Vec<Case> {
             .thing("far", link("./link"))
             .writes("old", SAMPLE_TEXT),
         font("a link to a file that is not there yet", "link").thing("link", link("new")).writes("new", SAMPLE_TEXT),
+        font("a link into another folder", "link")
+            .thing("folder", Thing::Folder)
+            .thing("folder/old", mode(0o640))
+            .thing("link", link("folder/old"))
+            .writes("folder/old", SAMPLE_TEXT),
+        font("a link to a new file in another folder", "link")
+            .thing("folder", Thing::Folder)
+            .thing("link", link("folder/new"))
+            .writes("folder/new", SAMPLE_TEXT),
+        font("a file in a folder", "folder/new").thing("folder", Thing::Folder).writes("folder/new", SAMPLE_TEXT),
         font("a path", "./new").writes("new", SAMPLE_TEXT),
         font("the input", "d.txt").writes("d.txt", SAMPLE_TEXT),
         font("a device", "/dev/null"),
@@ -57,6 +67,10 @@ fn trouble() -> Vec<Case> {
         failed("a link into a folder that is not there", "link").thing("link", link("none/new")),
         failed("a full device", "/dev/full"),
         font("an empty name", "").status(2).said(Said::IfNotDone),
+        case("output: a refusal and a pipe", "font d.txt -o /dev/stdout")
+            .file("d.txt", "cell 62\n")
+            .status(1)
+            .says(Line::new("d.txt:1: ", "")),
     ]
 }
 
@@ -79,6 +93,9 @@ fn full() -> Vec<Case> {
         "paint s --font f.hex -o -",
         "play e",
         "play e -o -",
+        // The periods cannot be printed, so the work is not whole and the wave is not written.
+        "play e -o new",
+        "play e -o e",
         "pulse 1 2",
     ]
     .iter()
