@@ -43,13 +43,14 @@ on-line words font s frame line lit n other mid last blink shade filled walked =
     ∙ tabulate-same n _ _ (λ k lt. joined (view lit) (firstDot s) k font words (rowPen (firstDot s) (firstLine s) 1 (s .colour)) (outsideByte (s .mode) (s .colour)))
     ∙ ap (λ (b : Bool). tabulate n (dotAt font (view b) (s .colour) (screenOf words s))) blink
 
+-- the first n bytes
+pub part-there : (n : ℕ) (out : List ℕ) → n ≤ length out → n ≡ length (take n out)
+part-there n out fits = sym (length-take-le n out fits)
+
 -- what an accepted call has shown
 module _ (words font : List ℕ) (s : Settings) (line : Lines) (width : Dots) (out : List ℕ) (r : Painted) (e : said r ≡ answerOf words font s line width (length out)) (done : r ≡ Done) where
   pub room-there : width .0 ≤ length out
   room-there = accepted-done words font s line width (length out) r e done .fits
-
-  pub part-there : width .0 ≡ length (take (width .0) out)
-  part-there = sym (length-take-le (width .0) out room-there)
 
   pub usable : Usable words font s
   usable =
@@ -75,7 +76,7 @@ module _ (words font : List ℕ) (s : Settings) (frame : ℕ) (line : Lines) (wi
     shown on l =
         leaves
         (l
-        ∙ ap (λ (n : ℕ). tabulate n (dotAt font (viewOf s frame line) (s .colour) (screenOf words s))) (sym (part-there words font s line width out r e done))
+        ∙ ap (λ (n : ℕ). tabulate n (dotAt font (viewOf s frame line) (s .colour) (screenOf words s))) (length-take-le (width .0) out (room-there words font s line width out r e done))
         ∙ tabulate-same (width .0) (dotAt font (viewOf s frame line) (s .colour) (screenOf words s)) (dotOf words font s frame line) (λ k lt. simp on))
 
     pub dark : s .on ≡ false → last ≡ replicate (length (take (width .0) out)) video → last ++ drop (width .0) out ≡ leftBy words font s frame line width out
@@ -83,6 +84,6 @@ module _ (words font : List ℕ) (s : Settings) (frame : ℕ) (line : Lines) (wi
     dark off l =
         leaves
         (l
-        ∙ ap (λ (n : ℕ). replicate n video) (sym (part-there words font s line width out r e done))
+        ∙ ap (λ (n : ℕ). replicate n video) (length-take-le (width .0) out (room-there words font s line width out r e done))
         ∙ tabulate-constant video (width .0)
         ∙ tabulate-same (width .0) (λ k. video) (dotOf words font s frame line) (λ k lt. simp off))

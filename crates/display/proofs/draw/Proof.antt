@@ -59,7 +59,8 @@ returns c =
     let bits = (let p : tie.After-shown-bits = search in p .shown-bits .ensures) in
     let told = (let k : tie.After-kind = search in k .kind .given .1) in
     let cut = (let s : tie.Start = search in s .pre .cut) in
-    drawn-character _ _ _ _ _ _ _ _ _ _ _ cut told bits shade drawn
+    let a = (let s : tie.Start = search in s .args) in
+    drawn-character (a .font .now) (a .view) (a .cell) (a .background) (a .out .now) _ _ _ _ _ _ cut told bits shade drawn
 
 same-length-2 : tie.Need-same-length-2
 same-length-2 c = search needs
@@ -70,7 +71,8 @@ returns-2 c =
     let shade = (let p : tie.After-unlit2 = search in p .unlit2 .ensures) in
     let told = (let k : tie.After-kind2 = search in k .kind2 .given .1) in
     let cut = (let s : tie.Start = search in s .pre .cut) in
-    drawn-space _ _ _ _ _ _ _ _ cut told shade drawn
+    let a = (let s : tie.Start = search in s .args) in
+    drawn-space (a .font .now) (a .view) (a .cell) (a .background) (a .out .now) _ _ _ cut told shade drawn
 
 returns-3 : tie.Need-returns-3
 returns-3 c = search drawn-return

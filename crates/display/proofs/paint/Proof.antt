@@ -2,7 +2,10 @@
 -- Assumes nothing.
 use mathlib.Core.Path.{_≡_}
 use mathlib.Core.Bool.{true, false}
+use Prim.Native.Nat.{_≤_}
+use native.Mathlib.Omega.{arith}
 use borrow.Author.Needs.{needs}
+use lib.ListN.{length}
 use Rattle.display.proofs.Whole.{room-there, part-there, usable, refused-leaves, shown, dark}
 use Rattle.display.proofs.paint.Statement.{statement}
 use Rattle.display.proofs.paint.Tie as tie
@@ -14,10 +17,16 @@ enum-told : tie.Need-enum-told
 enum-told c = search needs
 
 slice-relend-prefix-dots : tie.Need-slice-relend-prefix-dots
-slice-relend-prefix-dots c = search room-there
+slice-relend-prefix-dots c =
+    let a = (let s : tie.Start = search in s .args) in
+    let fits : a .width .0 ≤ length (a .out .now) = search room-there in
+    omega arith
 
 slice-aggregate-dots : tie.Need-slice-aggregate-dots
-slice-aggregate-dots c = search part-there
+slice-aggregate-dots c =
+    let a = (let s : tie.Start = search in s .args) in
+    let fits : a .width .0 ≤ length (a .out .now) = search room-there in
+    part-there _ _ (omega arith)
 
 paint-line-requires : tie.Need-paint-line-requires
 paint-line-requires c κs = search usable
@@ -35,7 +44,7 @@ returns c =
     let said = (let j : tie.After-judged = search in j .judged .ensures) in
     let a = (let s : tie.Start = search in s .args) in
     let on : a .settings .on ≡ true = search in
-    (said, shown _ _ _ (a .frame) _ _ _ _ said done _ on painted)
+    (said, shown (a .words .now) (a .font .now) (a .settings) (a .frame) (a .line) (a .width) (a .out .now) _ said done _ on painted)
 
 same-length-2 : tie.Need-same-length-2
 same-length-2 c = search needs
@@ -47,7 +56,7 @@ returns-2 c =
     let said = (let j : tie.After-judged = search in j .judged .ensures) in
     let a = (let s : tie.Start = search in s .args) in
     let off : a .settings .on ≡ false = search in
-    (said, dark _ _ _ (a .frame) _ _ _ _ said done _ off filled)
+    (said, dark (a .words .now) (a .font .now) (a .settings) (a .frame) (a .line) (a .width) (a .out .now) _ said done _ off filled)
 
 returns-3 : tie.Need-returns-3
 returns-3 c = (search, search refused-leaves)

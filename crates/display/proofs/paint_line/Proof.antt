@@ -2,6 +2,7 @@
 -- Assumes nothing.
 use native.Mathlib.Omega.{arith}
 use Rattle.display.proofs.Whole.{on-line}
+use lib.ListN.{length}
 use borrow.Author.Needs.{needs}
 use Rattle.display.proofs.paint_line.Statement.{statement}
 use Rattle.display.proofs.paint_line.Tie as tie
@@ -45,7 +46,7 @@ returns c =
     let other = (let o : tie.After-outside = search in o .outside .ensures) in
     let blink = (let b : tie.After-blink-lit = search in b .blink-lit .ensures) in
     let a = (let s : tie.Start = search in s .args) in
-    on-line _ _ (a .settings) (a .frame) _ _ _ _ _ _ blink other filled walked
+    on-line (a .words .now) (a .font .now) (a .settings) (a .frame) (a .line) _ (length (a .out .now)) _ _ _ blink other filled walked
 
 pub paint-line-spec : {M : Type 1} → statement M
 paint-line-spec =
