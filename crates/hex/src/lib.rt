@@ -84,41 +84,44 @@ fn collect(digits: &[u8], text: &[u8], bytes: &mut [u8], scratch: &mut [u16]) ->
     let mut at = 0usize;
     let mut count = 0u32;
     while at < text.len() {
+        let place = at as u32;
         let Line::Shaped { sum, next } = parse(digits, text, at, bytes) else {
-            return Outcome::BadShape(at as u32);
+            return Outcome::BadShape(place);
         };
+        let after = next as u32;
         if sum != 0 {
-            return Outcome::BadSum(at as u32);
+            return Outcome::BadSum(place);
         }
         let n = bytes[0] as usize;
         let address = 256 * (bytes[1] as usize) + bytes[2] as usize;
         let kind = bytes[3];
         if kind == END {
             if n != 0 {
-                return Outcome::BadType(at as u32);
+                return Outcome::BadType(place);
             }
             if address != 0 {
-                return Outcome::BadType(at as u32);
+                return Outcome::BadType(place);
             }
             if next < text.len() {
-                return Outcome::BadEnd(next as u32);
+                return Outcome::BadEnd(after);
             }
             return Outcome::Done(count);
         }
         if kind != DATA {
-            return Outcome::BadType(at as u32);
+            return Outcome::BadType(place);
         }
         if image::IMAGE_BYTES < address + n {
-            return Outcome::PastEnd(at as u32);
+            return Outcome::PastEnd(place);
         }
         if store(bytes, n, address, scratch) {
             count += n as u32;
             at = next;
         } else {
-            return Outcome::GivenTwice(at as u32);
+            return Outcome::GivenTwice(place);
         }
     }
-    Outcome::BadEnd(at as u32)
+    let end = at as u32;
+    Outcome::BadEnd(end)
 }
 
 // One line: not of the record's shape, or its eight-bit sum and where the next line starts.
@@ -159,10 +162,8 @@ fn parse(digits: &[u8], text: &[u8], at: usize, bytes: &mut [u8]) -> Line
     if next == 0 {
         return Line::Unshaped;
     }
-    Line::Shaped {
-        sum: sum as u8,
-        next,
-    }
+    let sum = sum as u8;
+    Line::Shaped { sum, next }
 }
 
 // n bytes of two digits each, from a place on: into bytes, with their eight-bit sum, carries dropped; or 256 where one is no digit.

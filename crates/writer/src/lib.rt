@@ -1,15 +1,13 @@
 // The writer of a font's image as Intel's hexadecimal object format.
 ghost use mathlib.Core.Path.{_≡_};
 ghost use Prim.Native.Nat.{_+_, _*_, _<_, _≤_};
-ghost use mathlib.Core.Bool.{true};
 ghost use lib.ListN.{length};
 ghost use lib.Seq.{sets};
-ghost use Rattle.font.specs.Font.{isFont, mostRow};
+ghost use Rattle.font.specs.Font.{mostRow};
 ghost use Rattle.image.specs.Image.{imageOf, halfAt};
-ghost use Rattle.hex.specs.Records.{sumOf};
-ghost use Rattle.writer.specs.Text.{digitText, byteText, bytesText, recordText, recordData, dataRecords, bytesIn, recordIn, textOf, textBytes};
+ghost use Rattle.writer.specs.Text.{digitText, byteText, recordText, recordData, recordIn, textOf};
 ghost use Rattle.writer.specs.Writing.{answerOf, leftOf, said};
-ghost use Rattle.writer.specs.Steps.{frontText, backText, frontBytes, backBytes, lineBytes, rowsIn};
+ghost use Rattle.writer.specs.Steps.{ToPutText, ToPutRecord, ToPutData, DataPut, frontText, backText, frontBytes, backBytes, lineBytes, rowsIn};
 
 // A record's data. A cell has two records in each half of the image.
 const RECORD_BYTES: usize = 16;
@@ -52,7 +50,7 @@ pub fn write(font: &[u16], text: &mut [u8]) -> Written
 }
 
 fn put_text(font: &[u16], text: &mut [u8])
-    requires { ⌜ (isFont (now font) ≡ true) × (textBytes ≤ length (now text)) ⌝ }
+    requires { ⌜ ToPutText (now font) (now text) ⌝ }
     ensures { λ _. ⌜ now (text .exit) ≡ sets (now (text .entry)) 0 (textOf (imageOf (now (font .entry)))) ⌝ }
 {
     let mut n = 0usize;
@@ -66,7 +64,7 @@ fn put_text(font: &[u16], text: &mut [u8])
 }
 
 fn put_record(font: &[u16], n: usize, text: &mut [u8])
-    requires { ⌜ (isFont (now font) ≡ true) × (n < dataRecords) × (textBytes ≤ length (now text)) ⌝ }
+    requires { ⌜ ToPutRecord (now font) n (now text) ⌝ }
     ensures { λ _. ⌜ now (text .exit) ≡ sets (now (text .entry)) (lineBytes * n) (recordText (recordIn (imageOf (now (font .entry))) n)) ⌝ }
 {
     let at = RECORD_TEXT * n;
@@ -103,9 +101,8 @@ fn put_back(text: &mut [u8], at: usize, sum: u8)
 
 // The data of record n, with its eight-bit sum, carries dropped: first the bytes that hold rows, then those that hold none.
 fn put_data(font: &[u16], n: usize, text: &mut [u8], at: usize) -> u8
-    requires { ⌜ (isFont (now font) ≡ true) × (n < dataRecords) × (at + 2 * recordData ≤ length (now text)) ⌝ }
-    ensures { λ r. ⌜ (r ≡ sumOf (bytesIn (imageOf (now (font .entry))) n))
-        × (now (text .exit) ≡ sets (now (text .entry)) at (bytesText (bytesIn (imageOf (now (font .entry))) n))) ⌝ }
+    requires { ⌜ ToPutData (now font) n (now text) at ⌝ }
+    ensures { λ r. ⌜ DataPut (now (font .entry)) n (now (text .entry)) at (now (text .exit)) r ⌝ }
 {
     let rows = rows_in(n);
     let first = font::CELL_ROWS * (n % HALF_RECORDS / 2) + RECORD_BYTES * (n % 2);

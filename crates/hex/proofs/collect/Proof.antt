@@ -22,6 +22,9 @@ loop-holds c =
     let pre = (let s : tie.Start Inv-loop μ-loop = search in s .pre) in
     record { passed = rw (pre .empty) (passed-none _); room = refl; whole = refl }
 
+cast-place : tie.Need-cast-place Inv-loop μ-loop
+cast-place c = search needs
+
 parse-requires : tie.Need-parse-requires Inv-loop μ-loop
 parse-requires c κs =
     let pre = (let s : tie.Start Inv-loop μ-loop = search in s .pre) in
@@ -32,9 +35,6 @@ enum-known-sum c = search needs
 
 enum-told : tie.Need-enum-told Inv-loop μ-loop
 enum-told c = search needs
-
-cast-t17 : tie.Need-cast-t17 Inv-loop μ-loop
-cast-t17 c = search needs
 
 same-length : tie.Need-same-length Inv-loop μ-loop
 same-length c = search needs
@@ -49,8 +49,13 @@ returns c =
     let told = (let l : tie.After-enum-told Inv-loop μ-loop = search in l .enum-told .given .1) in
     refused-by (meets-none (turn .inv .passed) (omega arith) parsed told) (omega arith) (omega arith) (omega arith) (omega arith)
 
-cast-t18 : tie.Need-cast-t18 Inv-loop μ-loop
-cast-t18 c = search needs
+cast-after : tie.Need-cast-after Inv-loop μ-loop
+cast-after c =
+    let turn = (let h : tie.At-loop Inv-loop μ-loop = search in h .loop) in
+    let parsed = (let p : tie.After-parse Inv-loop μ-loop = search in p .parse .ensures) in
+    let told = (let l : tie.After-sum Inv-loop μ-loop = search in l .sum .given .1) in
+    let met = meets (turn .inv .passed) (omega arith) parsed told in
+    omega (arith, met-next met .0)
 
 same-length-3 : tie.Need-same-length-3 Inv-loop μ-loop
 same-length-3 c = search needs
@@ -108,9 +113,6 @@ add-address c =
 slice-read-kind : tie.Need-slice-read-kind Inv-loop μ-loop
 slice-read-kind c = search needs
 
-cast-t28 : tie.Need-cast-t28 Inv-loop μ-loop
-cast-t28 c = search needs
-
 same-length-5 : tie.Need-same-length-5 Inv-loop μ-loop
 same-length-5 c = search needs
 
@@ -125,9 +127,6 @@ returns-3 c =
     let met = meets (turn .inv .passed) (omega arith) parsed told in
     refused-by (met-long-end met (omega arith) (omega arith) (omega arith)) (omega arith) (omega arith) (omega arith) (omega arith)
 
-cast-t29 : tie.Need-cast-t29 Inv-loop μ-loop
-cast-t29 c = search needs
-
 same-length-7 : tie.Need-same-length-7 Inv-loop μ-loop
 same-length-7 c = search needs
 
@@ -141,9 +140,6 @@ returns-4 c =
     let told = (let l : tie.After-sum Inv-loop μ-loop = search in l .sum .given .1) in
     let met = meets (turn .inv .passed) (omega arith) parsed told in
     refused-by (met-far-end met (omega arith) (omega arith) (omega arith) (omega arith)) (omega arith) (omega arith) (omega arith) (omega arith)
-
-cast-t31 : tie.Need-cast-t31 Inv-loop μ-loop
-cast-t31 c = search needs
 
 same-length-9 : tie.Need-same-length-9 Inv-loop μ-loop
 same-length-9 c = search needs
@@ -173,9 +169,6 @@ returns-6 c =
     let met = meets (turn .inv .passed) (omega arith) parsed told in
     record { says = said-by (met-done met (omega arith) (omega arith) (omega arith) (omega arith) (omega arith)) (omega arith) (omega arith) (omega arith); held = λ e. met-all met (omega arith) (omega arith) (omega arith) (omega arith) (omega arith) }
 
-cast-t32 : tie.Need-cast-t32 Inv-loop μ-loop
-cast-t32 c = search needs
-
 same-length-13 : tie.Need-same-length-13 Inv-loop μ-loop
 same-length-13 c = search needs
 
@@ -195,9 +188,6 @@ add-if7 c =
     let parsed = (let p : tie.After-parse Inv-loop μ-loop = search in p .parse .ensures) in
     let small = bytes-fit parsed (search) in
     omega (arith, small 0, small 1, small 2)
-
-cast-t33 : tie.Need-cast-t33 Inv-loop μ-loop
-cast-t33 c = search needs
 
 same-length-15 : tie.Need-same-length-15 Inv-loop μ-loop
 same-length-15 c = search needs
@@ -243,9 +233,6 @@ loop-again c =
     let stored = (let k : tie.After-store Inv-loop μ-loop = search in k .store .ensures) in
     record { passed = met-passed met (omega arith) (omega arith) (omega arith) (omega arith) stored (search); room = omega arith; whole = omega arith }
 
-cast-t40 : tie.Need-cast-t40 Inv-loop μ-loop
-cast-t40 c = search needs
-
 same-length-17 : tie.Need-same-length-17 Inv-loop μ-loop
 same-length-17 c = search needs
 
@@ -261,8 +248,8 @@ returns-9 c =
     let stored = (let k : tie.After-store Inv-loop μ-loop = search in k .store .ensures) in
     refused-by (met-twice met (omega arith) (omega arith) (omega arith) (omega arith) stored (search)) (omega arith) (omega arith) (omega arith) (omega arith)
 
-cast-t41 : tie.Need-cast-t41 Inv-loop μ-loop
-cast-t41 c = search needs
+cast-end : tie.Need-cast-end Inv-loop μ-loop
+cast-end c = search needs
 
 same-length-19 : tie.Need-same-length-19 Inv-loop μ-loop
 same-length-19 c = search needs
@@ -282,14 +269,14 @@ collect-spec =
     Inv-loop
     μ-loop
     loop-holds
+    cast-place
     parse-requires
     enum-known-sum
     enum-told
-    cast-t17
     same-length
     same-length-2
     returns
-    cast-t18
+    cast-after
     same-length-3
     same-length-4
     returns-2
@@ -302,27 +289,22 @@ collect-spec =
     cast-address-2
     add-address
     slice-read-kind
-    cast-t28
     same-length-5
     same-length-6
     returns-3
-    cast-t29
     same-length-7
     same-length-8
     returns-4
-    cast-t31
     same-length-9
     same-length-10
     returns-5
     same-length-11
     same-length-12
     returns-6
-    cast-t32
     same-length-13
     same-length-14
     returns-7
     add-if7
-    cast-t33
     same-length-15
     same-length-16
     returns-8
@@ -331,11 +313,10 @@ collect-spec =
     add-count
     loop-less
     loop-again
-    cast-t40
     same-length-17
     same-length-18
     returns-9
-    cast-t41
+    cast-end
     same-length-19
     same-length-20
     returns-10)

@@ -130,8 +130,8 @@ returns-7 c =
     let ended = (let e : tie.After-past-end = search in e .past-end .ensures) in
     not-shaped (a .text .now) (a .at) _ (no-end decoded (omega (arith, tells (a .at + 1), tells (a .at + 2))) (omega arith) _ _ ended (omega arith) (omega arith))
 
-cast-t18 : tie.Need-cast-t18
-cast-t18 c = search needs
+cast-sum : tie.Need-cast-sum
+cast-sum c = search needs
 
 same-length-3 : tie.Need-same-length-3
 same-length-3 c = search needs
@@ -177,6 +177,6 @@ parse-spec =
     past-end-requires
     same-length-2
     returns-7
-    cast-t18
+    cast-sum
     same-length-3
     returns-8)

@@ -4,7 +4,11 @@ use Prim.Native.Nat.{_*_}
 use native.Mathlib.Omega.{arith}
 use borrow.Author.Needs.{needs}
 use borrow.Author.Tests.{lt-ltb, le-ltb}
-use Rattle.image.specs.Image.{halfAt}
+use mathlib.Core.Bool.{true, false}
+use mathlib.Core.Path.{_≡_}
+use lib.Dec.{ltb}
+use Rattle.image.specs.Image.{halfAt, halfBytes}
+use Rattle.writer.specs.Text.{recordData}
 use Rattle.writer.proofs.half_of.Statement.{statement}
 use Rattle.writer.proofs.half_of.Tie as tie
 
@@ -13,7 +17,10 @@ cast-result c = search needs
 
 returns : tie.Need-returns
 unfolding halfAt
-returns c = simp (lt-ltb (16 * c .before .args .n) 4096 (omega arith)) (omega arith)
+returns c =
+    let a = (let s : tie.Start = search in s .args) in
+    let low : ltb (recordData * a .n) halfBytes ≡ true = omega (arith, lt-ltb) in
+    simp low (omega arith)
 
 cast-result-2 : tie.Need-cast-result-2
 cast-result-2 c = search needs
@@ -23,7 +30,10 @@ add-result c = search needs
 
 returns-2 : tie.Need-returns-2
 unfolding halfAt
-returns-2 c = simp (le-ltb (16 * c .before .args .n) 4096 (omega arith)) (omega arith)
+returns-2 c =
+    let a = (let s : tie.Start = search in s .args) in
+    let low : ltb (recordData * a .n) halfBytes ≡ false = omega (arith, le-ltb) in
+    simp low (omega arith)
 
 pub half-of-spec : {M : Type 1} → statement M
 half-of-spec = tie.close (tie.spec cast-result returns cast-result-2 add-result returns-2)

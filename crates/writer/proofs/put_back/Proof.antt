@@ -1,15 +1,10 @@
 -- `writer::put_back`. What wraps the sum back to 0 is the checksum; then LF.
 -- Assumes nothing.
-use Prim.Native.Nat.{ℕ, suc, _+_, _-_, _%_}
-use mathlib.Core.Path.{_≡_}
 use native.Mathlib.Omega.{arith}
 use borrow.Author.Needs.{needs}
-use Rattle.writer.specs.Steps.{backText}
+use Rattle.writer.proofs.Spelling.{back-stored}
 use Rattle.writer.proofs.put_back.Statement.{statement}
 use Rattle.writer.proofs.put_back.Tie as tie
-
-two : (n : ℕ) → n + 2 ≡ suc (suc n)
-two n = omega arith
 
 wrapping-sub-u8-requires : tie.Need-wrapping-sub-u8-requires
 wrapping-sub-u8-requires c κs = search needs
@@ -27,11 +22,11 @@ same-length : tie.Need-same-length
 same-length c = search needs
 
 returns : tie.Need-returns
-unfolding backText
 returns c =
-    let s = c .before .before .before .before .before .before in
-    let check : c .before .before .before .wrapping-sub-u8 .result ≡ (256 - s .args .sum) % 256 = omega arith in
-    rw (c .before .before .put-byte .ensures, check, two (s .args .at))
+    let put = (let b : tie.After-put-byte = search in b .put-byte .ensures) in
+    let a = (let s : tie.Start = search in s .args) in
+    let check = (let w : tie.After-wrapping-sub-u8 = search in w .wrapping-sub-u8 .result) in
+    back-stored _ _ (a .at) (a .sum) check put (omega arith)
 
 pub put-back-spec : {M : Type 1} → statement M
 put-back-spec =

@@ -1,12 +1,9 @@
 -- `writer::put_byte`: two stores, one after the other.
 -- Assumes nothing.
-use Prim.Native.Nat.{_/_, _%_}
-use mathlib.Core.Path.{_≡_}
-use native.Mathlib.Numerals.{add-one}
 use native.Mathlib.Omega.{arith}
 use borrow.Author.Needs.{needs}
 use lib.ListN.{length-set}
-use Rattle.writer.specs.Text.{digitText}
+use Rattle.writer.proofs.Spelling.{byte-stored}
 use Rattle.writer.proofs.put_byte.Statement.{statement}
 use Rattle.writer.proofs.put_byte.Tie as tie
 
@@ -30,10 +27,8 @@ same-length c = search needs
 
 returns : tie.Need-returns
 returns c =
-    let byte = c .before .before .before .args .byte in
-    let high : c .before .digit .result ≡ digitText (byte / 16) = omega (arith, c .before .digit .ensures) in
-    let low : c .digit2 .result ≡ digitText (byte % 16) = omega (arith, c .digit2 .ensures) in
-    rw (high, low, add-one)
+    let a = (let s : tie.Start = search in s .args) in
+    byte-stored (a .text .now) (a .at) (a .byte) _ _ (omega arith) (omega arith)
 
 pub put-byte-spec : {M : Type 1} → statement M
 put-byte-spec =

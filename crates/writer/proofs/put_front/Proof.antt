@@ -3,6 +3,7 @@
 use native.Mathlib.Omega.{arith}
 use borrow.Author.Needs.{needs}
 use lib.ListN.{length-set}
+use Rattle.hex.specs.Records.{colon}
 use Rattle.writer.proofs.Spelling.{front-stored}
 use Rattle.writer.proofs.put_front.Statement.{statement}
 use Rattle.writer.proofs.put_front.Tie as tie
@@ -14,34 +15,41 @@ add-put-byte : tie.Need-add-put-byte
 add-put-byte c = search needs
 
 put-byte-requires : tie.Need-put-byte-requires
-put-byte-requires c κs = simp length-set (omega arith)
+put-byte-requires c κs =
+    let a = (let s : tie.Start = search in s .args) in
+    omega (arith, length-set (a .text .now) (a .at) colon)
 
 add-put-byte-2 : tie.Need-add-put-byte-2
 add-put-byte-2 c = search needs
 
 put-byte-requires-2 : tie.Need-put-byte-requires-2
-put-byte-requires-2 c κs = let a = c .before .before .before .before .before .before .args in omega (arith, length-set (a .text .now) (a .at) 58)
+put-byte-requires-2 c κs =
+    let a = (let s : tie.Start = search in s .args) in
+    omega (arith, length-set (a .text .now) (a .at) colon)
 
 add-put-byte-3 : tie.Need-add-put-byte-3
 add-put-byte-3 c = search needs
 
 put-byte-requires-3 : tie.Need-put-byte-requires-3
-put-byte-requires-3 c κs = let a = c .before .before .before .before .before .before .before .before .before .before .args in omega (arith, length-set (a .text .now) (a .at) 58)
+put-byte-requires-3 c κs =
+    let a = (let s : tie.Start = search in s .args) in
+    omega (arith, length-set (a .text .now) (a .at) colon)
 
 add-put-byte-4 : tie.Need-add-put-byte-4
 add-put-byte-4 c = search needs
 
 put-byte-requires-4 : tie.Need-put-byte-requires-4
-put-byte-requires-4 c κs = let a = c .before .before .before .before .before .before .before .before .before .before .before .before .before .before .args in omega (arith, length-set (a .text .now) (a .at) 58)
+put-byte-requires-4 c κs =
+    let a = (let s : tie.Start = search in s .args) in
+    omega (arith, length-set (a .text .now) (a .at) colon)
 
 same-length : tie.Need-same-length
-same-length c = let a = c .before .before .before .before .before .before .before .before .before .before .before .before .before .before .before .before .before .args in omega (arith, length-set (a .text .now) (a .at) 58)
+same-length c =
+    let a = (let s : tie.Start = search in s .args) in
+    omega (arith, length-set (a .text .now) (a .at) colon)
 
 returns : tie.Need-returns
-returns c =
-    rw
-    (c .before .before .put-byte4 .ensures, c .before .before .before .before .before .before .put-byte3 .ensures, c .before .before .before .before .before .before .before .before .before .before .put-byte2 .ensures, c .before .before .before .before .before .before .before .before .before .before .before .before .before .before .put-byte .ensures)
-    (front-stored _ _ _ _ _ _)
+returns c = search front-stored
 
 pub put-front-spec : {M : Type 1} → statement M
 put-front-spec =

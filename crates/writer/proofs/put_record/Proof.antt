@@ -1,13 +1,9 @@
--- `writer::put_record`. Front, data and back in turn are the record's line, and the sum of its data with that of its front is the sum of
--- the record.
+-- `writer::put_record`. Front, data and back in turn are the record's line.
 -- Assumes nothing.
-use Prim.Native.Nat.{_+_, _*_, _/_, _%_}
+use Prim.Native.Nat.{_*_}
+use native.Mathlib.Omega.{arith}
 use borrow.Author.Needs.{needs}
-use lib.ListN.{getD}
-use Rattle.image.specs.Image.{imageOf}
-use Rattle.laws.proofs.Lists.{length-tabulate}
-use Rattle.writer.specs.Text.{bytesIn, recordIn}
-use Rattle.writer.proofs.Spelling.{frame-sum, record-stored}
+use Rattle.writer.proofs.Spelling.{added, record-stored}
 use Rattle.writer.proofs.put_record.Statement.{statement}
 use Rattle.writer.proofs.put_record.Tie as tie
 
@@ -60,15 +56,12 @@ same-length : tie.Need-same-length
 same-length c = search needs
 
 returns : tie.Need-returns
-unfolding recordIn
 returns c =
-    let s = c .before .before .before .before .before .before .before .before .before .before .before .before .before .before .before .before in
-    let image = imageOf (s .args .font .now) in
-    let n = s .args .n in
-    let spelled = c .before .before .before .before .before .before .before .before .put-data in
-    rw (c .before .before .put-back .ensures, spelled .ensures .1, c .before .before .before .before .before .before .before .before .before .before .before .before .put-front .ensures)
-    (record-stored (s .args .text .now) (44 * n) (16 * n) (bytesIn image n) _ (length-tabulate 16 (λ i. getD image (16 * n + i) 0))
-    (frame-sum (bytesIn image n) (16 * n / 256) (16 * n % 256) _ _ _ (spelled .ensures .0) (c .before .before .before .before .before .wrapping-add-u8 .ensures) (c .before .before .before .before .wrapping-add-u82 .ensures)))
+    let front = (let f : tie.After-put-front = search in f .put-front .ensures) in
+    let put = (let d : tie.After-put-data = search in d .put-data .ensures) in
+    let back = (let b : tie.After-put-back = search in b .put-back .ensures) in
+    let a = (let s : tie.Start = search in s .args) in
+    record-stored (a .font .now) (a .n) (44 * a .n) _ _ _ _ _ _ front put back (search added)
 
 pub put-record-spec : {M : Type 1} → statement M
 put-record-spec =

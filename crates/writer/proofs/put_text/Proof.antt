@@ -1,31 +1,20 @@
 -- `writer::put_text`. The loop keeps that the lines of the records so far stand at the front of the text; the end record's line follows.
 -- Assumes nothing.
-use Prim.Native.Nat.{_-_, _≤_}
-use mathlib.Core.Path.{_≡_, refl}
-use mathlib.Core.List.{flatMap}
+use Prim.Native.Nat.{_-_}
 use native.Mathlib.Omega.{arith}
 use borrow.Author.Needs.{needs}
-use lib.ListN.{length}
-use lib.Seq.{sets}
-use Rattle.image.specs.Image.{imageOf}
-use Rattle.laws.specs.Lists.{tabulate}
-use Rattle.writer.specs.Text.{recordText, recordIn}
-use Rattle.writer.specs.Steps.{frontText, backText}
-use Rattle.writer.proofs.Lists.{sets-three, sets-more, flat-length}
-use Rattle.writer.proofs.Spelling.{front-length, line-length, text-parts}
+use Rattle.writer.proofs.Spelling.{Lined, lined-none, lined-more, lined-all}
 use Rattle.writer.proofs.put_text.Statement.{statement}
 use Rattle.writer.proofs.put_text.Tie as tie
 
 abbrev Inv-loop : tie.InvT-loop
-Inv-loop font text₀ n₀ text n =
-    (n ≤ 512) × (length text ≡ length text₀) × (text ≡ sets text₀ 0 (flatMap recordText (tabulate n (recordIn (imageOf font)))))
+Inv-loop font text₀ n₀ text n = Lined font text₀ n text
 
 abbrev μ-loop : tie.MeasureT-loop
 μ-loop font text₀ n₀ text n = 512 - n
 
 loop-holds : tie.Need-loop-holds Inv-loop μ-loop
-unfolding flatMap tabulate
-loop-holds c = (omega arith, refl, refl)
+loop-holds c = lined-none _ _
 
 put-record-requires : tie.Need-put-record-requires Inv-loop μ-loop
 put-record-requires c κs = search needs
@@ -38,14 +27,9 @@ loop-less c = search needs
 
 loop-again : tie.Need-loop-again Inv-loop μ-loop
 loop-again c =
-    let l = c .before .before .before .before .before .loop in
-    let s = c .before .before .before .before .before .before .before .before in
-    let image = imageOf (s .args .font .now) in
-    let put = c .before .before .put-record .ensures in (
-      omega arith,
-      omega arith,
-      rw (put, l .inv .2) (sets-more recordText 44 (recordIn image) (line-length image) (s .args .text .now) 0 (l .n) _ (omega arith)),
-    )
+    let turn = (let h : tie.At-loop Inv-loop μ-loop = search in h .loop) in
+    let put = (let r : tie.After-put-record Inv-loop μ-loop = search in r .put-record .ensures) in
+    lined-more (turn .inv) put (omega arith)
 
 mul-at : tie.Need-mul-at Inv-loop μ-loop
 mul-at c = search needs
@@ -64,12 +48,10 @@ same-length c = search needs
 
 returns : tie.Need-returns Inv-loop μ-loop
 returns c =
-    let l = c .before .before .before .before .before .before .before .before .before .loop in
-    let s = c .before .before .before .before .before .before .before .before .before .before .before .before in
-    let image = imageOf (s .args .font .now) in
-    let e : l .n ≡ 512 = omega arith in
-    rw (c .before .before .put-back .ensures, c .before .before .before .before .before .before .put-front .ensures, l .inv .2, e, text-parts image)
-    (sets-three (s .args .text .now) 0 22528 22537 (flatMap recordText (tabulate 512 (recordIn image))) (frontText 0 0 0 1) (backText 1) (omega (arith, flat-length recordText 44 (recordIn image) (line-length image) 512)) (front-length 22528 0 0 0 1))
+    let turn = (let h : tie.At-loop Inv-loop μ-loop = search in h .loop) in
+    let front = (let f : tie.After-put-front Inv-loop μ-loop = search in f .put-front .ensures) in
+    let back = (let b : tie.After-put-back Inv-loop μ-loop = search in b .put-back .ensures) in
+    lined-all (turn .inv) (omega arith) front back
 
 pub put-text-spec : {M : Type 1} → statement M
 put-text-spec =

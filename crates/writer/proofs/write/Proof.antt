@@ -1,17 +1,28 @@
 -- `writer::write`: each return by the tests that led to it.
 -- Assumes nothing.
 use mathlib.Core.Path.{_≡_, sym, _∙_}
+use mathlib.Core.Bool.{Bool, true, false, not}
 use native.Mathlib.Omega.{arith}
 use borrow.Author.Needs.{needs}
 use borrow.Author.Tests.{not-true, not-false, lt-ltb, le-ltb}
+use lib.Dec.{ltb}
 use lib.ListN.{length}
 use Rattle.laws.specs.Said.{refused}
 use Rattle.laws.proofs.Said.{said-by}
+use Rattle.font.specs.Font.{isFont}
 use Rattle.image.specs.Image.{imageOf}
+use Rattle.writer.specs.Text.{textBytes}
 use Rattle.writer.specs.Writing.{answerOf, leftOf}
 use Rattle.writer.proofs.Spelling.{text-stored}
 use Rattle.writer.proofs.write.Statement.{statement}
 use Rattle.writer.proofs.write.Tie as tie
+
+-- what `!f(..)` tells of the test that f answers by
+holds : (r t : Bool) → r ≡ t → not r ≡ false → t ≡ true
+holds r t answers left = sym answers ∙ not-false _ left
+
+fails : (r t : Bool) → r ≡ t → not r ≡ true → t ≡ false
+fails r t answers taken = sym answers ∙ not-true _ taken
 
 is-font-requires : tie.Need-is-font-requires
 is-font-requires c κs = search needs
@@ -19,20 +30,21 @@ is-font-requires c κs = search needs
 returns : tie.Need-returns
 unfolding answerOf leftOf
 returns c =
-    let s = c .before .before .before .before in
-    let e = sym (c .before .is-font .ensures) ∙ not-true _ (c .if1 .taken) in
-    let told : refused 4 0 ≡ answerOf (s .args .font .now) (length (s .args .text .now)) = simp e in
-    (said-by told (omega arith) (omega arith) (omega arith), simp e)
+    let a = (let s : tie.Start = search in s .args) in
+    let font : isFont (a .font .now) ≡ false = search fails in
+    let told : refused 4 0 ≡ answerOf (a .font .now) (length (a .text .now)) = simp font in
+    (said-by told (omega arith) (omega arith) (omega arith), simp font)
 
 returns-2 : tie.Need-returns-2
 unfolding answerOf leftOf
 returns-2 c =
-    let e = sym (c .before .before .is-font .ensures) ∙ not-false _ (c .before .if1 .left) in
-    let g = lt-ltb (length (c .before .before .before .before .before .args .text .now)) 22540 (omega arith) in
-    (simp (e, g), simp (e, g))
+    let a = (let s : tie.Start = search in s .args) in
+    let font : isFont (a .font .now) ≡ true = search holds in
+    let room : ltb (length (a .text .now)) textBytes ≡ true = omega (arith, lt-ltb) in
+    (simp (font, room), simp (font, room))
 
 put-text-requires : tie.Need-put-text-requires
-put-text-requires c κs = (sym (c .before .before .before .is-font .ensures) ∙ not-false _ (c .before .before .if1 .left), omega arith)
+put-text-requires c κs = record { font-is = search holds; room = omega arith }
 
 same-length : tie.Need-same-length
 same-length c = search needs
@@ -40,10 +52,11 @@ same-length c = search needs
 returns-3 : tie.Need-returns-3
 unfolding answerOf leftOf
 returns-3 c =
-    let s = c .before .before .before .before .before .before .before .before .before in
-    let e = sym (c .before .before .before .before .before .before .is-font .ensures) ∙ not-false _ (c .before .before .before .before .before .if1 .left) in
-    let g = le-ltb (length (s .args .text .now)) 22540 (omega arith) in
-    (simp (e, g), c .before .before .put-text .ensures ∙ text-stored (imageOf (s .args .font .now)) (s .args .text .now) (omega arith) ∙ simp (e, g))
+    let a = (let s : tie.Start = search in s .args) in
+    let font : isFont (a .font .now) ≡ true = search holds in
+    let room : ltb (length (a .text .now)) textBytes ≡ false = omega (arith, le-ltb) in
+    let put = (let t : tie.After-put-text = search in t .put-text .ensures) in
+    (simp (font, room), put ∙ text-stored (imageOf (a .font .now)) (a .text .now) (omega arith) ∙ simp (font, room))
 
 pub write-spec : {M : Type 1} → statement M
 write-spec =
