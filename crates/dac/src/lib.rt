@@ -117,7 +117,7 @@ fn run(dac: Dac, count: usize, levels: &mut [u8]) -> Dac
         return after;
     }
     let next = after.completed;
-    wave::lay(&mut levels[left..count], next, 0);
+    wave::lay_from_start(&mut levels[left..count], next);
     after.in_force = next;
     after
 }

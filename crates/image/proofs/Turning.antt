@@ -4,31 +4,20 @@
 -- Assumes nothing.
 use mathlib.Core.Path.{_≡_, refl, sym, _∙_, ap}
 use mathlib.Core.Bool.{Bool, true, false}
-use mathlib.Core.List.{List, [], _∷_}
-use Prim.Native.Nat.{ℕ, zero, suc, _+_, _-_, _*_, _/_, _%_, _<_, _≤_}
+use mathlib.Core.List.{List}
+use Prim.Native.Nat.{ℕ, _+_, _-_, _*_, _/_, _%_, _<_, _≤_}
 use native.Mathlib.Decide.{decLt}
 use native.Mathlib.Omega.{arith}
-use lib.Dec.{ltb, leb, eqb}
+use lib.Dec.{ltb, eqb}
 use lib.ListN.{length, getD}
-use borrow.Author.Tests.{lt-ltb, le-ltb, eq-eqb, eqb-true, ltb-false, leb-true, le-leb}
+use borrow.Author.Tests.{lt-ltb, le-ltb, eq-eqb, eqb-true, ltb-false}
 use Rattle.laws.specs.Pick.{both, pick}
 use Rattle.laws.specs.Said.{Said, accepted, refused}
-use Rattle.laws.specs.Within.{within}
 use Rattle.font.specs.Font.{isFont, rowOf}
 use Rattle.image.specs.Image.{imageOf, fontOf, halfAt, dueAt, rowIn, lowAt, cellAt, rowAt, hasRow, leastAt, lacksAt, firstLack, answerOf}
+use Rattle.font.proofs.Each.{within-at, within-each}
 use Rattle.laws.proofs.Both.{both-parts}
 use Rattle.laws.proofs.Lists.{length-tabulate, getD-tabulate, is-tabulate, first-none, first-before}
-
-within-at : (most : ℕ) (l : List ℕ) → within most l ≡ true → (k : ℕ) → getD l k 0 ≤ most
-unfolding within
-within-at most [] e k = omega arith
-within-at most (a ∷ l) e zero = leb-true a most (both-parts (leb a most) (within most l) e .0)
-within-at most (a ∷ l) e (suc k) = within-at most l (both-parts (leb a most) (within most l) e .1) k
-
-within-each : (most : ℕ) (l : List ℕ) → ((k : ℕ) → k < length l → getD l k 0 ≤ most) → within most l ≡ true
-unfolding within
-within-each most [] h = refl
-within-each most (a ∷ l) h = rw (le-leb a most (h 0 (omega arith))) (within-each most l (λ k g. h (suc k) (omega arith)))
 
 -- a font's rows
 pub font-length : (font : List ℕ) → isFont font ≡ true → length font ≡ 1116

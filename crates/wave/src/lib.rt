@@ -33,7 +33,15 @@ pub fn lay(levels: &mut [u8], pair: Pair, from: usize)
     lay_on(&mut levels[head..n], pair, from + head);
 }
 
-// The same from the first clock of a sub-period on: whole sub-periods, with no call between them, and what is left.
+// Lays the levels that a pair gives from the period's first clock on.
+pub fn lay_from_start(levels: &mut [u8], pair: Pair)
+    ensures { λ _. ⌜ now (levels .exit) ≡ laid pair 0 (now (levels .entry)) ⌝ }
+{
+    let n = least(levels.len(), PERIOD);
+    lay_on(&mut levels[..n], pair, 0);
+}
+
+// The levels from the first clock of a sub-period on: whole sub-periods, with no call between them, and what is left.
 fn lay_on(levels: &mut [u8], pair: Pair, from: usize)
     requires { ⌜ (from + length (now levels) ≤ period) × (from % subPeriod ≡ 0) ⌝ }
     ensures { λ _. ⌜ now (levels .exit) ≡ wave pair from (length (now (levels .entry))) ⌝ }
@@ -51,7 +59,7 @@ fn lay_on(levels: &mut [u8], pair: Pair, from: usize)
     lay_within(&mut levels[i..], pair, from + i);
 }
 
-// The same within one sub-period.
+// The levels of clocks within one sub-period.
 fn lay_within(levels: &mut [u8], pair: Pair, from: usize)
     requires { ⌜ (from < period) × (from % subPeriod + length (now levels) ≤ subPeriod) ⌝ }
     ensures { λ _. ⌜ now (levels .exit) ≡ wave pair from (length (now (levels .entry))) ⌝ }

@@ -67,17 +67,17 @@ returns-2 c =
     let levels : first .last .0 ≡ laid (q .result) (k .result .position) (take (a .count) (a .levels .now)) = first .ensures in
     run-within (a .dac) (k .result) (q .result) (k .ensures) (q .ensures) (a .count) (a .levels .now) (fits .inRoom) _ some inside levels
 
-sub-lay : tie.Need-sub-lay
-sub-lay c = search needs
+sub-lay-from-start : tie.Need-sub-lay-from-start
+sub-lay-from-start c = search needs
 
-part-lay-start : tie.Need-part-lay-start
-part-lay-start c = search needs
+part-lay-from-start-start : tie.Need-part-lay-from-start-start
+part-lay-from-start-start c = search needs
 
-part-lay-end : tie.Need-part-lay-end
-part-lay-end c = search needs
+part-lay-from-start-end : tie.Need-part-lay-from-start-end
+part-lay-from-start-end c = search needs
 
-lay-requires-2 : tie.Need-lay-requires-2
-lay-requires-2 c κs = search needs
+lay-from-start-requires : tie.Need-lay-from-start-requires
+lay-from-start-requires c κs = search needs
 
 same-length-2 : tie.Need-same-length-2
 same-length-2 c = search needs
@@ -89,7 +89,7 @@ returns-3 c =
     let k = (let p : tie.After-kept = search in p .kept) in
     let q = (let p : tie.After-playing = search in p .playing) in
     let first = (let p : tie.After-lay = search in p .lay) in
-    let then = (let p : tie.After-lay2 = search in p .lay2) in
+    let then = (let p : tie.After-lay-from-start = search in p .lay-from-start) in
     let left : ℕ = period - k .result .position in
     let past : left < a .count = omega arith in
     let levels : first .last .0 ≡ laid (q .result) (k .result .position) (take (a .count) (a .levels .now)) = first .ensures in
@@ -99,4 +99,4 @@ pub run-spec : {M : Type 1} → statement M
 run-spec =
     tie.close
     (tie.spec returns kept-requires cast-position sub-left playing-requires slice-relend-prefix-lay slice-aggregate-lay lay-requires add-after cast-after
-    same-length returns-2 sub-lay part-lay-start part-lay-end lay-requires-2 same-length-2 returns-3)
+    same-length returns-2 sub-lay-from-start part-lay-from-start-start part-lay-from-start-end lay-from-start-requires same-length-2 returns-3)

@@ -31,18 +31,18 @@ loop-less c = omega arith
 
 loop-again : tie.Need-loop-again Inv-loop μ-loop
 loop-again c =
-    let l = c .before .loop in
-    let a = c .before .before .args in
+    let l = (let p : tie.At-loop Inv-loop μ-loop = search in p .loop) in
+    let a = (let p : tie.Start Inv-loop μ-loop = search in p .args) in
     let e : set (l .bytes) (l .i) (a .byte) ≡ replicate (l .i + 1) (a .byte) ++ drop (l .i + 1) (a .bytes .now) = rw (l .inv .2) (fill-more (l .i) (a .byte) (a .bytes .now) (omega arith)) in
     (simp length-set (l .inv .0), omega arith, e)
 
 same-length : tie.Need-same-length Inv-loop μ-loop
-same-length c = c .before .loop .inv .0
+same-length c = search
 
 returns : tie.Need-returns Inv-loop μ-loop
 returns c =
-    let l = c .before .loop in
-    let a = c .before .before .args in
+    let l = (let p : tie.At-loop Inv-loop μ-loop = search in p .loop) in
+    let a = (let p : tie.Start Inv-loop μ-loop = search in p .args) in
     let e : l .i ≡ length (a .bytes .now) = omega arith in
     l .inv .2 ∙ ap (λ n. replicate n (a .byte) ++ drop n (a .bytes .now)) e ∙ rw (drop-length (a .bytes .now)) (append-nil (replicate (length (a .bytes .now)) (a .byte)))
 

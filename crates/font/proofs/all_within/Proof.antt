@@ -2,6 +2,7 @@
 -- Assumes nothing.
 use Prim.Native.Nat.{_≤_, _-_}
 use mathlib.Core.Path.{_≡_, sym, _∙_}
+use mathlib.Core.Bool.{true}
 use mathlib.Core.Logic.{⊎-elim}
 use native.Mathlib.Omega.{arith}
 use borrow.Author.Needs.{needs}
@@ -24,10 +25,17 @@ all-bits-requires : tie.Need-all-bits-requires Inv-loop μ-loop
 all-bits-requires c κs = search needs
 
 returns : tie.Need-returns Inv-loop μ-loop
-returns c = sym (c .before .all-bits .ensures (c .before .before .before .args .most) (c .if1 .taken))
+returns c =
+    let most = (let p : tie.Start Inv-loop μ-loop = search in p .args .most) in
+    let bits = (let p : tie.After-all-bits Inv-loop μ-loop = search in p .all-bits) in
+    let small : bits .result ≤ most = omega arith in
+    sym (bits .ensures most small)
 
 loop-holds : tie.Need-loop-holds Inv-loop μ-loop
-loop-holds c = (omega arith, simp (le-leb 0 (c .before .before .before .args .most) (omega arith)))
+loop-holds c =
+    let most = (let p : tie.Start Inv-loop μ-loop = search in p .args .most) in
+    let none : leb 0 most ≡ true = omega (arith, le-leb) in
+    (omega arith, simp none)
 
 mul-number : tie.Need-mul-number Inv-loop μ-loop
 mul-number c = omega arith
@@ -43,8 +51,8 @@ loop-less c = omega arith
 
 loop-again : tie.Need-loop-again Inv-loop μ-loop
 loop-again c =
-    let l = c .before .before .before .loop in
-    let a = c .before .before .before .before .before .before .before .args in (
+    let a = (let p : tie.Start Inv-loop μ-loop = search in p .args) in
+    let l = (let p : tie.At-loop Inv-loop μ-loop = search in p .loop) in (
       omega arith,
       ⊎-elim
           (λ w. rw (w .1) (within-larger (a .most) (a .numbers .now) (l .i) (l .top) (omega arith) (omega arith)))
@@ -55,10 +63,10 @@ loop-again c =
 
 returns-2 : tie.Need-returns-2 Inv-loop μ-loop
 returns-2 c =
-    let l = c .before .loop in
-    let a = c .before .before .before .before .before .args in
-    let e : l .i ≡ length (a .numbers .now) = omega arith in
-    sym (within-all (a .most) (a .numbers .now) (l .top)) ∙ (rw e at (l .inv .1))
+    let a = (let p : tie.Start Inv-loop μ-loop = search in p .args) in
+    let l = (let p : tie.At-loop Inv-loop μ-loop = search in p .loop) in
+    let all : l .i ≡ length (a .numbers .now) = omega arith in
+    sym (within-all (a .most) (a .numbers .now) (l .top)) ∙ (rw all at (l .inv .1))
 
 pub all-within-spec : {M : Type 1} → statement M
 all-within-spec =

@@ -38,14 +38,16 @@ loop-less c = omega arith
 
 loop-again : tie.Need-loop-again Inv-loop μ-loop
 loop-again c =
-    let l = c .before .before .loop in
+    let l = (let p : tie.At-loop Inv-loop μ-loop = search in p .loop) in
     (omega (arith, l .inv .1 .size), filled-more _ (l .i) (l .words) _ _ (omega (arith, l .inv .1 .size)) (ap keptWord (l .inv .1 .left (l .i) (omega arith))) (l .inv .1))
 
 same-length : tie.Need-same-length Inv-loop μ-loop
-same-length c = c .before .loop .inv .1 .size
+same-length c = search
 
 returns : tie.Need-returns Inv-loop μ-loop
-returns c = let l = c .before .loop in filled-map keptWord refl (l .i) (l .words) _ (omega (arith, l .inv .1 .size)) (l .inv .1)
+returns c =
+    let l = (let p : tie.At-loop Inv-loop μ-loop = search in p .loop) in
+    filled-map keptWord refl (l .i) (l .words) _ (omega (arith, l .inv .1 .size)) (l .inv .1)
 
 pub keep-words-spec : {M : Type 1} → statement M
 keep-words-spec =

@@ -15,8 +15,9 @@ keep-words-requires c κs = search needs
 
 returns : tie.Need-returns
 returns c =
-    let a = c .before .before .before .before .before .before .before .args .port in
-    ap (λ (ws : List ℕ). record { address = a .address % 64; attribute = a .attribute % 16; character = a .character % 64; words = ws }) (c .before .before .before .before .keep-words .ensures)
+    let a = (let p : tie.Start = search in p .args .port) in
+    let words = (let p : tie.After-keep-words = search in p .keep-words .ensures) in
+    ap (λ (ws : List ℕ). record { address = a .address % 64; attribute = a .attribute % 16; character = a .character % 64; words = ws }) words
 
 pub kept-spec : {M : Type 1} → statement M
 kept-spec = tie.close (tie.spec slice-aggregate-keep-words keep-words-requires returns)

@@ -12,7 +12,9 @@ kept-requires c κs = search needs
 
 returns : tie.Need-returns
 returns c =
-    ap (λ (q : Port). record { address = c .before .args .byte % 64; attribute = q .attribute; character = q .character; words = q .words }) (c .kept .ensures)
+    let byte = (let p : tie.Start = search in p .args .byte) in
+    let kept = (let p : tie.After-kept = search in p .kept .ensures) in
+    ap (λ (q : Port). record { address = byte % 64; attribute = q .attribute; character = q .character; words = q .words }) kept
 
 pub write-address-spec : {M : Type 1} → statement M
 write-address-spec = tie.close (tie.spec kept-requires returns)

@@ -12,7 +12,9 @@ kept-requires c κs = search needs
 
 returns : tie.Need-returns
 returns c =
-    ap (λ (q : Port). record { address = q .address; attribute = c .before .args .byte % 16; character = q .character; words = q .words }) (c .kept .ensures)
+    let byte = (let p : tie.Start = search in p .args .byte) in
+    let kept = (let p : tie.After-kept = search in p .kept .ensures) in
+    ap (λ (q : Port). record { address = q .address; attribute = byte % 16; character = q .character; words = q .words }) kept
 
 pub write-attribute-spec : {M : Type 1} → statement M
 write-attribute-spec = tie.close (tie.spec kept-requires returns)

@@ -34,15 +34,23 @@ mul-after : tie.Need-mul-after
 mul-after c = search needs
 
 element-write-after : tie.Need-element-write-after
-element-write-after c = omega (arith, ap (λ (q : Port). q .address) (c .kept .ensures))
+element-write-after c =
+    let kept = (let p : tie.After-kept = search in p .kept .ensures) in
+    let at = ap (λ (q : Port). q .address) kept in
+    omega (arith, at)
 
 add-after : tie.Need-add-after
-add-after c = omega (arith, ap (λ (q : Port). q .address) (c .kept .ensures))
+add-after c =
+    let kept = (let p : tie.After-kept = search in p .kept .ensures) in
+    let left = ap (λ (q : Port). q .address) kept in
+    omega (arith, left)
 
 returns : tie.Need-returns
 returns c =
-    let code = c .before .args .byte % 64 in
-    ap (λ (q : Port). record { address = (q .address + 1) % 64; attribute = q .attribute; character = code; words = set (q .words) (q .address) (code * 16 + q .attribute) }) (c .kept .ensures)
+    let byte = (let p : tie.Start = search in p .args .byte) in
+    let kept = (let p : tie.After-kept = search in p .kept .ensures) in
+    let code = byte % 64 in
+    ap (λ (q : Port). record { address = (q .address + 1) % 64; attribute = q .attribute; character = code; words = set (q .words) (q .address) (code * 16 + q .attribute) }) kept
 
 pub write-character-spec : {M : Type 1} → statement M
 write-character-spec =

@@ -52,7 +52,7 @@ returns-2 : tie.Need-returns-2
 returns-2 c =
     let a = (let p : tie.Start = search in p .args) in
     let n = (let p : tie.After-least = search in p .least) in
-    let reach : n .result ≡ min (length (a .levels .now)) (period - a .from) = n .ensures in
+    let reach : n .result ≡ min (length (a .levels .now)) (period - a .from) = omega (arith, n .ensures) in
     let head = (let p : tie.After-least2 = search in p .least2) in
     let first = (let p : tie.After-lay-within = search in p .lay-within .ensures) in
     let all : head .result ≡ n .result = omega arith in
@@ -80,7 +80,7 @@ returns-3 : tie.Need-returns-3
 returns-3 c =
     let a = (let p : tie.Start = search in p .args) in
     let n = (let p : tie.After-least = search in p .least) in
-    let reach : n .result ≡ min (length (a .levels .now)) (period - a .from) = n .ensures in
+    let reach : n .result ≡ min (length (a .levels .now)) (period - a .from) = omega (arith, n .ensures) in
     let head = (let p : tie.After-least2 = search in p .least2) in
     let first = (let p : tie.After-lay-within = search in p .lay-within .ensures) in
     let others = (let p : tie.After-lay-on = search in p .lay-on .ensures) in
