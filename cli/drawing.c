@@ -31,7 +31,7 @@ static int end_cell(const struct reader *reader)
                      (unsigned long)reader->row, (int)DIRGEFLINT_CELL_ROWS);
 }
 
-/* The number of a heading's cell is decimal, as a name may follow that looks like anything. */
+/* A heading's number is decimal: drawings are for people, and 0x belongs to words and bytes. */
 static bool read_cell(struct slice word, uint32_t *cell)
 {
     return memchr(word.start, 'x', word.length) == NULL && read_number_within(word, 0, DIRGEFLINT_CELLS - 1, cell);

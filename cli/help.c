@@ -2,6 +2,7 @@
 #include <string.h>
 
 #include "commands.h"
+#include "number.h"
 #include "options.h"
 #include "say.h"
 #include "slice.h"
@@ -88,7 +89,7 @@ static const char on_paint[] =
     "  --font F    the font's text, as dirgeflint font makes it\n"
     "  --mode M    0 or 1 characters only, 2 in boxes (default), 3 on a full screen\n"
     "  --colour C  the background before the first space, and outside in mode 3:\n"
-    "              black, blue, green, cyan, red, magenta, yellow, white, or 0 to 7\n"
+    "              " COLOURS "\n"
     "              in this order (default: black)\n"
     "  --h H       0 to 63: rows start at dot 4H (default: 0)\n"
     "  --v V       0 to 63: the first row starts at line 4V (default: 0)\n"

@@ -17,7 +17,7 @@ const char *input_name(const char *path)
     return is_standard(path) ? "<stdin>" : path;
 }
 
-/* Room for more than length bytes, but not for more than most. */
+/* Room for twice as many bytes, but not for more than most. Without memory the room is freed. */
 static char *grow(char *room, size_t *size, size_t most)
 {
     size_t wanted = *size == 0 ? 4096 : *size > SIZE_MAX / 2 ? SIZE_MAX : 2 * *size;

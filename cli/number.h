@@ -15,6 +15,9 @@ bool read_number(struct slice word, uint32_t *number);
 /* A number from least to most. */
 bool read_number_within(struct slice word, uint32_t least, uint32_t most, uint32_t *number);
 
+/* What a colour may be, for messages and help. */
+#define COLOURS "black, blue, green, cyan, red, magenta, yellow, white, or 0 to 7"
+
 /* A colour by its name, or any number: whether it is one of the eight is for whoever takes it. */
 bool read_colour(struct slice word, uint32_t *colour);
 

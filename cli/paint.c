@@ -17,7 +17,7 @@ static const uint32_t usual[NUMBERS] = { [MODE] = 2 };
 
 static const char *const ranges[NUMBERS] = {
     [MODE] = "modes are 0 to 3",
-    [COLOUR] = "colours are black, blue, green, cyan, red, magenta, yellow, white, or 0 to 7",
+    [COLOUR] = ("colours are " COLOURS),
     [H] = "h is 0 to 63",
     [V] = "v is 0 to 63",
     [RATIO] = "ratios are 0 to 2, and 3 is reserved",

@@ -24,7 +24,7 @@ static int colour_part(const char *file, const struct statement *line, size_t pl
 {
     if (read_colour(line->words[place], colour) && *colour <= DIRGEFLINT_WHITE)
         return DONE;
-    return wrong_part(file, line, place, "no colour: black, blue, green, cyan, red, magenta, yellow, white, or 0 to 7");
+    return wrong_part(file, line, place, "no colour: " COLOURS);
 }
 
 static int character_line(const char *file, const struct statement *line, uint16_t *word)
