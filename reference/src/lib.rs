@@ -5,8 +5,8 @@
 //! implements the traits of `parts` beside the model, and `bridge` makes the library such a thing. `fast` gives the
 //! same answers quickly, so that the bridge can run ahead of the library. `random` makes the cases, each again from its
 //! seed and index. `cases` are texts for `fontcheck` with the line each must give, and `draw` turns a drawn font into
-//! its text. `cli` puts the command line beside what the model and `lines`, its texts' lines and words, make of the same
-//! files.
+//! its text. `cli` puts the command line beside what the model makes of the same files, and `lines` has the lines, words
+//! and numbers of these.
 
 // The model counts with remainders, as the papers do.
 #![allow(clippy::manual_is_multiple_of)]

@@ -12,6 +12,7 @@ use std::process::ExitCode;
 use std::time::{Duration, Instant};
 
 const NAMES: &[&str] = &["table", "fonts", "pictures", "waves", "damage"];
+const OPTIONS: &str = "--seed N, --from N, --count N, --damage N, --program PATH";
 const LIMIT: Duration = Duration::from_secs(10);
 
 struct Request {
@@ -40,10 +41,7 @@ fn request(arguments: impl Iterator<Item = String>) -> Result<Request, String> {
             "--program" => request.program = Some(value()?.into()),
             name if NAMES.contains(&name) => request.groups.push(argument),
             other => {
-                return Err(format!(
-                    "\"{other}\" is no group of cases ({}) and none of --seed N, --from N, --count N, --damage N, --program PATH",
-                    NAMES.join(", ")
-                ))
+                return Err(format!("\"{other}\" is no group of cases ({}) and none of {OPTIONS}", NAMES.join(", ")))
             }
         }
     }

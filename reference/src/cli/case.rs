@@ -2,6 +2,7 @@
 
 use super::folder::{Folder, Thing, Things};
 use super::program::{End, Ended, Order, Program};
+use super::report::{difference, indented, shown, typed};
 use std::ffi::OsString;
 
 /// A line of standard error. Where its wording is free, only its start and its end are known, and what it has to name.
@@ -71,8 +72,6 @@ pub enum Out {
 pub enum Said {
     Exactly(Vec<u8>),
     Lines(Vec<Line>),
-    /// More lines may follow.
-    First(Line),
     /// These lines, or nothing: where either will do.
     Perhaps(Vec<Line>),
     /// Not empty unless the status is 0.
@@ -257,10 +256,9 @@ impl Case {
     fn judge_said(&self, ended: &Ended) -> Option<String> {
         let wrong = match &self.said {
             Said::Exactly(due) => difference(due, &ended.err),
-            Said::Lines(due) => lines_differ(due, &ended.err, false),
-            Said::First(due) => lines_differ(std::slice::from_ref(due), &ended.err, true),
+            Said::Lines(due) => lines_differ(due, &ended.err),
             Said::Perhaps(_) if ended.err.is_empty() => None,
-            Said::Perhaps(due) => lines_differ(due, &ended.err, false),
+            Said::Perhaps(due) => lines_differ(due, &ended.err),
             Said::IfNotDone => {
                 (ended.err.is_empty() && ended.end != End::Status(0)).then(|| "is empty, and it failed".to_string())
             }
@@ -286,31 +284,40 @@ impl Case {
         let mut due = before;
         let mut wrong = Vec::new();
         for (name, written) in &self.written {
-            let got = after.get(&OsString::from(name));
-            let bytes = match written {
-                Written::Exactly(bytes) => bytes.clone(),
-                Written::IfDone(complete) => {
-                    if ended.end != End::Status(0) {
-                        continue;
-                    }
-                    match got {
-                        Some(Thing::File { bytes, .. }) if complete(bytes) => bytes.clone(),
-                        _ => {
-                            wrong.push(format!("{name} is not complete"));
-                            continue;
-                        }
-                    }
+            let name = OsString::from(name);
+            match written.due(after.get(&name), ended.end == End::Status(0)) {
+                Due::AsItWas => {}
+                Due::Bytes(bytes) => {
+                    // A file that was there keeps its permissions.
+                    let mode = due.get(&name).and_then(Thing::mode);
+                    due.insert(name, Thing::File { bytes, mode });
                 }
-            };
-            // A file that was there keeps its permissions.
-            let mode = match due.get(&OsString::from(name)) {
-                Some(Thing::File { mode, .. }) => *mode,
-                _ => None,
-            };
-            due.insert(OsString::from(name), Thing::File { bytes, mode });
+                Due::More => wrong.push(format!("{} is not complete", name.to_string_lossy())),
+            }
         }
         wrong.extend(things_differ(&due, after));
         (!wrong.is_empty()).then(|| wrong.join("\n"))
+    }
+}
+
+/// What a file must be after a run.
+enum Due {
+    AsItWas,
+    Bytes(Vec<u8>),
+    /// More than it is: it is not complete.
+    More,
+}
+
+impl Written {
+    fn due(&self, got: Option<&Thing>, done: bool) -> Due {
+        match (self, got) {
+            (Written::Exactly(bytes), _) => Due::Bytes(bytes.clone()),
+            (Written::IfDone(_), _) if !done => Due::AsItWas,
+            (Written::IfDone(complete), Some(Thing::File { bytes, .. })) if complete(bytes) => {
+                Due::Bytes(bytes.clone())
+            }
+            _ => Due::More,
+        }
     }
 }
 
@@ -342,70 +349,13 @@ fn permissions(mode: Option<u32>) -> String {
     mode.map_or("the usual".to_string(), |mode| format!("{mode:o}"))
 }
 
-/// Where two outputs part, if they do.
-fn difference(due: &[u8], got: &[u8]) -> Option<String> {
-    if due == got {
-        return None;
-    }
-    let place = due.iter().zip(got).take_while(|(one, other)| one == other).count();
-    let line = due[..place].iter().filter(|&&byte| byte == b'\n').count() + 1;
-    let around = |bytes: &[u8]| {
-        let start = bytes[..place].iter().rposition(|&byte| byte == b'\n').map_or(0, |at| at + 1);
-        shown(&bytes[start.max(place.saturating_sub(100))..], 160)
-    };
-    Some(format!(
-        "differs at byte {place}, in line {line} ({} bytes, and {} are due)\n  due: {}\n  got: {}",
-        got.len(),
-        due.len(),
-        around(due),
-        around(got)
-    ))
-}
-
-fn lines_differ(due: &[Line], err: &[u8], more: bool) -> Option<String> {
+fn lines_differ(due: &[Line], err: &[u8]) -> Option<String> {
     let text = String::from_utf8_lossy(err);
     let lines: Vec<&str> = text.lines().collect();
-    let number = lines.len() == due.len() || (more && lines.len() > due.len());
-    if number && due.iter().zip(&lines).all(|(due, line)| due.fits(line)) {
+    if lines.len() == due.len() && due.iter().zip(&lines).all(|(due, line)| due.fits(line)) {
         return None;
     }
     let due: Vec<String> = due.iter().map(|line| format!("  {line}")).collect();
     let due = if due.is_empty() { "  nothing".to_string() } else { due.join("\n") };
     Some(format!("is not what is due:\n{due}"))
-}
-
-/// Bytes for a report, cut where they are long.
-fn shown(bytes: &[u8], most: usize) -> String {
-    let cut = if bytes.len() > most { " .." } else { "" };
-    let text: String = bytes[..bytes.len().min(most)]
-        .iter()
-        .map(|&byte| match byte {
-            b'\n' => "\n".to_string(),
-            b' '..=b'~' => char::from(byte).to_string(),
-            _ => format!("\\x{byte:02X}"),
-        })
-        .collect();
-    let text = if most < 1000 { text.replace('\n', "\\n") } else { text };
-    text + cut
-}
-
-fn indented(text: &str) -> String {
-    text.lines().map(|line| format!("  {line}")).collect::<Vec<String>>().join("\n")
-}
-
-/// A word as a shell takes it.
-fn typed(word: &[u8]) -> String {
-    let plain = |byte: &u8| byte.is_ascii_alphanumeric() || b"-_./=,:+".contains(byte);
-    if !word.is_empty() && word.iter().all(plain) {
-        return String::from_utf8_lossy(word).into_owned();
-    }
-    let bytes: String = word
-        .iter()
-        .map(|&byte| match byte {
-            b'\'' | b'\\' => format!("\\{}", char::from(byte)),
-            b' '..=b'~' => char::from(byte).to_string(),
-            _ => format!("\\x{byte:02x}"),
-        })
-        .collect();
-    format!("$'{bytes}'")
 }

@@ -25,6 +25,13 @@ impl Thing {
     pub fn file(bytes: impl Into<Vec<u8>>) -> Self {
         Thing::File { bytes: bytes.into(), mode: None }
     }
+
+    pub fn mode(&self) -> Option<u32> {
+        match self {
+            Thing::File { mode, .. } => *mode,
+            _ => None,
+        }
+    }
 }
 
 pub type Things = BTreeMap<OsString, Thing>;

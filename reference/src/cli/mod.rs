@@ -12,6 +12,7 @@ pub mod folder;
 mod planted;
 pub mod program;
 pub mod randomly;
+mod report;
 pub mod screen;
 pub mod table;
 pub mod text;

@@ -77,6 +77,11 @@ fn reasons() -> Vec<Case> {
     ]
 }
 
+/// One file named twice.
+fn twice(text: &[u8]) -> Case {
+    check("a file twice", false, &[("a", Some(text))]).out("a: cells 62 bytes 8192\n".repeat(2))
+}
+
 /// Several files, good and bad, there or not.
 fn several() -> Vec<Case> {
     let (good, partial, bad) = (Some(SAMPLE_TEXT), Some(END_RECORD), Some(&b":00000001FE"[..]));
@@ -94,6 +99,7 @@ fn several() -> Vec<Case> {
         files("a partial text is bad where it must be whole", true, &[("a", partial), ("b", good)]),
         files("whole texts", true, &[("a", good), ("b", good)]),
         files("a refused text where it must be whole", true, &[("a", bad)]),
+        Case { words: case("", "check a a").words, ..twice(SAMPLE_TEXT) },
         files("standard input", false, &[("-", good)]),
         files("standard input among files", false, &[("a", good), ("-", bad), ("b", good)]),
         files("a partial text from standard input", false, &[("-", partial)]),

@@ -108,6 +108,7 @@ fn shown() -> Vec<Case> {
         some("show a cell as often as it is named", &[9, 9, 3, 9], To::Old),
         typed(some("show cells in hexadecimal", &[16, 61, 5], To::Nowhere), "show f.hex 0x10 0x3D 005"),
         typed(some("show with the output named first", &[16], To::New), "show -o out f.hex 16"),
+        typed(some("show cells after the options", &[3, 4], To::New), "show -o out -- f.hex 3 4"),
         all("show an empty text", b"", To::Old),
         all("show a bad sum", b":00000001FE\n", To::Old),
         all("show a text too long", &[b'\n'; 65_536], To::New),

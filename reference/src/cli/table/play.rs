@@ -9,7 +9,7 @@ fn played(name: &str, events: &str) -> Vec<Case> {
 }
 
 fn good() -> Vec<Case> {
-    let files: [(&str, &str); 20] = [
+    let files: [(&str, &str); 21] = [
         ("nothing", ""),
         ("comments only", "; nothing\n\n# nothing\n \t\n"),
         ("no clock", "low 3\nhigh 1\nplay 0\nreset\n"),
@@ -28,6 +28,7 @@ fn good() -> Vec<Case> {
         ("resets with nothing between", "reset\nreset\nplay 3\nreset\nreset\nhigh 1\nplay 3\nreset\n"),
         ("writes and a reset without a clock", "high 9\nlow 3\nreset\nplay 5\nhigh 7\n"),
         ("writes at the end", "high 1\nplay 16384\nhigh 2\nlow 3\n"),
+        ("leading zeros", "low 0003\nhigh 0x0001\nplay 00000000000000016384\n"),
         ("clock by clock", "high 2\nplay 1\nplay 1\nplay 0\nplay 1\n"),
         ("blanks and comments", "  low\t3 ; a half\nhigh 0x01#the other\n\tplay  200\t\n"),
     ];
