@@ -157,6 +157,16 @@ bool open_output(const char *path, struct output *output)
     return output->stream != NULL;
 }
 
+/* Why standard output lost something that it was given, once that is known; errno may be another's by the time it is told. */
+static int lost;
+
+bool is_printed(void)
+{
+    if ((fflush(stdout) != 0 || ferror(stdout)) && lost == 0)
+        lost = errno;
+    return lost == 0;
+}
+
 /* Whether all that was written got there; else errno tells why. */
 static bool close_stream(FILE *stream)
 {
@@ -189,5 +199,10 @@ int close_output(struct output *output, int status)
 
 int finish_output(int status)
 {
-    return close_stream(stdout) ? status : file_trouble("<stdout>", "written");
+    bool printed = is_printed();
+    if (close_stream(stdout) && printed)
+        return status;
+    if (lost != 0)
+        errno = lost;
+    return file_trouble("<stdout>", "written");
 }

@@ -24,6 +24,9 @@ bool open_output(const char *path, struct output *output);
  */
 int close_output(struct output *output, int status);
 
+/* Whether all that standard output was given so far got there. If not, finish_output tells. */
+bool is_printed(void);
+
 /* For main: the three standard files are there and signals leave no temporary file; and at the end all was written. */
 void prepare_output(void);
 int finish_output(int status);

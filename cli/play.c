@@ -91,6 +91,8 @@ static int play_to_wave(struct player *player, const struct events *events, cons
     begin_wave(&player->wave, output.stream);
     int status = play_events(player, events);
     end_wave(&player->wave);
+    if (status == DONE && !is_printed())
+        status = TROUBLE;
     return close_output(&output, status);
 }
 

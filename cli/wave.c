@@ -3,6 +3,30 @@
 #include <inttypes.h>
 #include <string.h>
 
+enum { HALF_BITS = 7 };
+
+/* Each bit of a half is a wire of its own, as some programs take no wider ones; its name in the file is a letter, from bit 6 on. */
+static const struct half {
+    const char *name;
+    char first;
+} coarse_half = { "coarse", 'A' }, fine_half = { "fine", 'a' };
+
+static void declare_half(FILE *stream, struct half half)
+{
+    for (int i = 0; i < HALF_BITS; i++)
+        fprintf(stream, "$var wire 1 %c %s[%d] $end\n", half.first + i, half.name, HALF_BITS - 1 - i);
+}
+
+/* The bits that changed. */
+static void write_half(FILE *stream, struct half half, uint8_t before, uint8_t now)
+{
+    for (int i = 0; i < HALF_BITS; i++) {
+        int bit = HALF_BITS - 1 - i, is = now >> bit & 1;
+        if (is != (before >> bit & 1))
+            fprintf(stream, "%d%c\n", is, half.first + i);
+    }
+}
+
 void begin_wave(struct wave *wave, FILE *stream)
 {
     memset(wave, 0, sizeof *wave);
@@ -10,38 +34,29 @@ void begin_wave(struct wave *wave, FILE *stream)
     fputs("$comment dirgeflint " DIRGEFLINT_VERSION ": the 14-bit DAC; a time unit is a clock $end\n"
           "$timescale 1 us $end\n"
           "$scope module dac $end\n"
-          "$var wire 1 l level $end\n"
-          "$var wire 7 c coarse $end\n"
-          "$var wire 7 f fine $end\n"
-          "$upscope $end\n"
+          "$var wire 1 l level $end\n",
+          stream);
+    declare_half(stream, coarse_half);
+    declare_half(stream, fine_half);
+    fputs("$upscope $end\n"
           "$enddefinitions $end\n"
           "$dumpvars\n"
-          "0l\n"
-          "b0000000 c\n"
-          "b0000000 f\n"
-          "$end\n",
+          "0l\n",
           stream);
-}
-
-static void write_half(struct wave *wave, uint8_t half, char name)
-{
-    fputc('b', wave->stream);
-    for (int bit = 6; bit >= 0; bit--)
-        fputc('0' + (half >> bit & 1), wave->stream);
-    fprintf(wave->stream, " %c\n", name);
+    write_half(stream, coarse_half, UINT8_MAX, 0);
+    write_half(stream, fine_half, UINT8_MAX, 0);
+    fputs("$end\n", stream);
 }
 
 static void add_clock(struct wave *wave, dirgeflint_pair pair, uint8_t level)
 {
-    bool new_level = level != wave->level, new_coarse = pair.coarse != wave->pair.coarse, new_fine = pair.fine != wave->pair.fine;
-    if (new_level || new_coarse || new_fine)
+    bool new_level = level != wave->level;
+    if (new_level || pair.coarse != wave->pair.coarse || pair.fine != wave->pair.fine)
         fprintf(wave->stream, "#%" PRIu64 "\n", wave->clock);
     if (new_level)
         fprintf(wave->stream, "%dl\n", level);
-    if (new_coarse)
-        write_half(wave, pair.coarse, 'c');
-    if (new_fine)
-        write_half(wave, pair.fine, 'f');
+    write_half(wave->stream, coarse_half, wave->pair.coarse, pair.coarse);
+    write_half(wave->stream, fine_half, wave->pair.fine, pair.fine);
     wave->level = level;
     wave->pair = pair;
     wave->clock++;

@@ -132,11 +132,10 @@ impl Wave {
             if level != old_level {
                 let _ = writeln!(vcd, "{level}l");
             }
-            if pair.coarse != old_pair.coarse {
-                let _ = writeln!(vcd, "b{:07b} c", pair.coarse);
-            }
-            if pair.fine != old_pair.fine {
-                let _ = writeln!(vcd, "b{:07b} f", pair.fine);
+            for (name, new, old) in bits(pair).zip(bits(old_pair)).map(|((name, new), (_, old))| (name, new, old)) {
+                if new != old {
+                    let _ = writeln!(vcd, "{new}{name}");
+                }
             }
         }
         let _ = writeln!(vcd, "#{}", self.clocks.len());
@@ -144,19 +143,50 @@ impl Wave {
     }
 }
 
+/// The bits of a pair, each with its letter in the file: A to G are bits 6 to 0 of the coarse half, a to g of the fine one.
+fn bits(pair: Pair) -> impl Iterator<Item = (char, u8)> {
+    let coarse = ('A'..='G').zip((0..7).rev()).map(move |(name, bit)| (name, pair.coarse >> bit & 1));
+    let fine = ('a'..='g').zip((0..7).rev()).map(move |(name, bit)| (name, pair.fine >> bit & 1));
+    coarse.chain(fine)
+}
+
 const HEADING: &str = "\
 $comment dirgeflint 1.0: the 14-bit DAC; a time unit is a clock $end
 $timescale 1 us $end
 $scope module dac $end
 $var wire 1 l level $end
-$var wire 7 c coarse $end
-$var wire 7 f fine $end
+$var wire 1 A coarse[6] $end
+$var wire 1 B coarse[5] $end
+$var wire 1 C coarse[4] $end
+$var wire 1 D coarse[3] $end
+$var wire 1 E coarse[2] $end
+$var wire 1 F coarse[1] $end
+$var wire 1 G coarse[0] $end
+$var wire 1 a fine[6] $end
+$var wire 1 b fine[5] $end
+$var wire 1 c fine[4] $end
+$var wire 1 d fine[3] $end
+$var wire 1 e fine[2] $end
+$var wire 1 f fine[1] $end
+$var wire 1 g fine[0] $end
 $upscope $end
 $enddefinitions $end
 $dumpvars
 0l
-b0000000 c
-b0000000 f
+0A
+0B
+0C
+0D
+0E
+0F
+0G
+0a
+0b
+0c
+0d
+0e
+0f
+0g
 $end
 ";
 
@@ -196,9 +226,9 @@ mod tests {
         assert_eq!(changes(""), "#0 ");
         assert_eq!(changes("high 2\nplay 0"), "#0 ");
         assert_eq!(changes("play 7"), "#7 ");
-        assert_eq!(changes("low 3\nhigh 2\nplay 3"), "#0 1l b0000010 c b0000011 f #2 0l #3 ");
-        assert_eq!(changes("high 1\nplay 1\nreset\nhigh 1\nplay 1"), "#0 1l b0000001 c #2 ");
-        assert_eq!(changes("low 1\nhigh 0\nplay 2\nreset\nplay 1\nlow 2\nhigh 5"), "#0 b0000001 f #2 b0000000 f #3 ");
+        assert_eq!(changes("low 3\nhigh 2\nplay 3"), "#0 1l 1F 1f 1g #2 0l #3 ");
+        assert_eq!(changes("high 1\nplay 1\nreset\nhigh 1\nplay 1"), "#0 1l 1G #2 ");
+        assert_eq!(changes("low 1\nhigh 0\nplay 2\nreset\nplay 1\nlow 2\nhigh 5"), "#0 1g #2 0g #3 ");
     }
 
     #[test]
