@@ -110,16 +110,17 @@ fn paint_line(
     ensures { λ _. ⌜ now (out .exit) ≡ tabulate (length (now (out .entry))) (dotAt (now (font .entry)) (viewOf settings frame line) (settings .colour) (screenOf (now (words .entry)) settings)) ⌝ }
 {
     let lit = blink_lit(settings.ratio, settings.frequency, frame);
+    let x = 4 * settings.h as usize;
+    let y = 4 * settings.v as usize;
     let view = View {
-        left: Dots(4 * settings.h as usize),
+        left: Dots(x),
         line: line,
         mode: settings.mode,
         lit: lit,
     };
-    let top = Lines(4 * settings.v as usize);
     let start = settings.colour as u8;
     fill::fill(out, outside(settings.mode, start));
-    row_step(words, font, view, top, 1, start, out);
+    row_step(words, font, view, Lines(y), 1, start, out);
 }
 
 // A row of this size starts at line y with these words. A row above the line is passed over at once, and below the line nothing is left.
@@ -265,25 +266,32 @@ fn decode(word: u16) -> Kind
     ensures { λ r. ⌜ r ≡ kindOf word ⌝ }
 {
     let code = word / 16 % 64;
+    let colour = (word / 2 % 8) as u8;
+    let mark = word % 2 == 1;
     match code {
         SPACE => {
-            if word % 2 == 1 {
+            if mark {
                 Kind::End
             } else {
-                Kind::Space {
-                    background: (word / 2 % 8) as u8,
-                }
+                Kind::Space { background: colour }
             }
         }
-        RETURN => Kind::Return {
-            size: (word / 4 % 4 + 1) as usize,
-            spacing: Lines((word % 4 * 4) as usize),
-        },
-        _ => Kind::Character {
-            colour: (word / 2 % 8) as u8,
-            code: code as usize,
-            blink: word % 2 == 1,
-        },
+        RETURN => {
+            let size = (word / 4 % 4 + 1) as usize;
+            let lines = (word % 4 * 4) as usize;
+            Kind::Return {
+                size: size,
+                spacing: Lines(lines),
+            }
+        }
+        _ => {
+            let character = code as usize;
+            Kind::Character {
+                colour: colour,
+                code: character,
+                blink: mark,
+            }
+        }
     }
 }
 

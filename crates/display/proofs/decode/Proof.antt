@@ -10,33 +10,30 @@ use borrow.Author.Needs.{needs}
 use Rattle.display.proofs.decode.Statement.{statement}
 use Rattle.display.proofs.decode.Tie as tie
 
-cast-t10 : tie.Need-cast-t10
-cast-t10 c = search needs
+cast-colour : tie.Need-cast-colour
+cast-colour c = search needs
 
-add-t13 : tie.Need-add-t13
-add-t13 c = search needs
+add-size : tie.Need-add-size
+add-size c = search needs
 
-cast-t14 : tie.Need-cast-t14
-cast-t14 c = search needs
+cast-size : tie.Need-cast-size
+cast-size c = search needs
 
-mul-t16 : tie.Need-mul-t16
-mul-t16 c = search needs
+mul-lines : tie.Need-mul-lines
+mul-lines c = search needs
 
-cast-t17 : tie.Need-cast-t17
-cast-t17 c = search needs
+cast-lines : tie.Need-cast-lines
+cast-lines c = search needs
 
-cast-t21 : tie.Need-cast-t21
-cast-t21 c = search needs
-
-cast-t22 : tie.Need-cast-t22
-cast-t22 c = search needs
+cast-character : tie.Need-cast-character
+cast-character c = search needs
 
 returns : tie.Need-returns
 unfolding kindOf
 returns c =
     let w = (let s : tie.Start = search in s .args .word) in
     let space : eqb (codeOf w) spaceCode ≡ true = omega (arith, eq-eqb) in
-    let end : markOf w ≡ true = omega (arith, eq-eqb) in
+    let end : markOf w ≡ true = search in
     simp (space, end)
 
 returns-2 : tie.Need-returns-2
@@ -44,7 +41,7 @@ unfolding kindOf
 returns-2 c =
     let w = (let s : tie.Start = search in s .args .word) in
     let space : eqb (codeOf w) spaceCode ≡ true = omega (arith, eq-eqb) in
-    let end : markOf w ≡ false = omega (arith, ne-eqb) in
+    let end : markOf w ≡ false = search in
     simp (space, end)
 
 returns-3 : tie.Need-returns-3
@@ -67,13 +64,12 @@ pub decode-spec : {M : Type 1} → statement M
 decode-spec =
     tie.close
     (tie.spec
-    cast-t10
-    add-t13
-    cast-t14
-    mul-t16
-    cast-t17
-    cast-t21
-    cast-t22
+    cast-colour
+    add-size
+    cast-size
+    mul-lines
+    cast-lines
+    cast-character
     returns
     returns-2
     returns-3

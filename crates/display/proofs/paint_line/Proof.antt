@@ -10,17 +10,17 @@ use Rattle.display.proofs.paint_line.Tie as tie
 blink-lit-requires : tie.Need-blink-lit-requires
 blink-lit-requires c κs = search needs
 
-cast-t11 : tie.Need-cast-t11
-cast-t11 c = search needs
+cast-x : tie.Need-cast-x
+cast-x c = search needs
 
-mul-t12 : tie.Need-mul-t12
-mul-t12 c = search needs
+mul-x : tie.Need-mul-x
+mul-x c = search needs
 
-cast-t11-2 : tie.Need-cast-t11-2
-cast-t11-2 c = search needs
+cast-y : tie.Need-cast-y
+cast-y c = search needs
 
-mul-t12-2 : tie.Need-mul-t12-2
-mul-t12-2 c = search needs
+mul-y : tie.Need-mul-y
+mul-y c = search needs
 
 cast-start : tie.Need-cast-start
 cast-start c = search needs
@@ -53,10 +53,10 @@ paint-line-spec =
     tie.close
     (tie.spec
     blink-lit-requires
-    cast-t11
-    mul-t12
-    cast-t11-2
-    mul-t12-2
+    cast-x
+    mul-x
+    cast-y
+    mul-y
     cast-start
     outside-requires
     fill-requires
