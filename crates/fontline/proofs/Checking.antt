@@ -4,7 +4,7 @@ use mathlib.Core.Path.{_≡_, sym, _∙_, ap}
 use mathlib.Core.List.{List, _++_, append-nil}
 use Prim.Native.Nat.{ℕ}
 use native.Mathlib.Omega.{arith}
-use lib.ListN.{length, drop-of-length-le}
+use lib.ListN.{length, replicate, length-replicate, drop-of-length-le}
 use borrow.Author.Tests.{eq-eqb, ne-eqb}
 use Rattle.laws.specs.Said.{Said, accepted, refused}
 use Rattle.laws.proofs.Said.{number-of}
@@ -15,14 +15,32 @@ use Rattle.hex.specs.Reading.{imageIn, leftOf}
 use Rattle.hex.specs.Reading.{answerOf as reading}
 use Rattle.answer.specs.Told.{told}
 use Rattle.answer.specs.declared.Answer.{Answer}
-use Rattle.fontline.specs.Lines.{checked, lineFor}
+use Rattle.fontline.specs.Lines.{checked, lineFor, lineWith}
+use Rattle.fontline.specs.declared.Line.{Line}
 
--- an accepted text fills a room of 8,192 bytes with its image
-pub image-read : (text room : List ℕ) → length room ≡ imageBytes → reading text (length room) .number ≡ 0 → leftOf text room ≡ imageIn text
+-- what reading says, in a room of 8,192 bytes
+pub is-read : (text : List ℕ) {read : Answer} {s : Said} → told read ≡ s → s ≡ reading text (length {A = ℕ} (replicate imageBytes 0)) → told read ≡ reading text imageBytes
+is-read text e g = e ∙ g ∙ ap (reading text) (length-replicate {A = ℕ} imageBytes 0)
+
+-- an accepted text fills it with its image
+image-read : (text room : List ℕ) → length room ≡ imageBytes → reading text (length room) .number ≡ 0 → leftOf text room ≡ imageIn text
 unfolding leftOf
 image-read text room full e =
     rw (eq-eqb _ 0 e)
     (ap (λ (l : List ℕ). imageIn text ++ l) (drop-of-length-le room {i = imageBytes} (omega arith)) ∙ append-nil (imageIn text))
+
+-- so what turning it says is what turning the text's image says
+pub image-turned : (text : List ℕ) {read : Answer} {s : Said} → told read ≡ s → s ≡ reading text (length {A = ℕ} (replicate imageBytes 0)) → read .number ≡ 0
+    → {image : List ℕ} → image ≡ leftOf text (replicate imageBytes 0) → {turned : Answer} {t : Said} → told turned ≡ t
+    → t ≡ turning image (length {A = ℕ} (replicate fontRows 0)) → told turned ≡ turning (imageIn text) fontRows
+image-turned text e g fine left is turns =
+    let good = sym (number-of (e ∙ g)) ∙ fine in
+    let image-is = left ∙ image-read text (replicate imageBytes 0) (length-replicate {A = ℕ} imageBytes 0) good in
+    is ∙ turns ∙ ap (λ (l : List ℕ). turning l (length {A = ℕ} (replicate fontRows 0))) image-is ∙ ap (turning (imageIn text)) (length-replicate {A = ℕ} fontRows 0)
+
+-- a line for what is told as the text is
+pub line-same : {l m : List ℕ} {r : Line} → l ≡ m → r ≡ lineWith l → r ≡ lineWith m
+line-same e is = is ∙ ap lineWith e
 
 -- a refusal's line tells its number and place alone
 refused-only : (a : Answer) → (a .number ≡ 0 → ⊥) → lineFor (refused (a .number) (a .place)) ≡ lineFor (told a)

@@ -1,2 +1,3 @@
 -- The account of this crate, for other crates to cite.
 pub mod Lines
+pub mod Steps

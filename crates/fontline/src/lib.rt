@@ -1,11 +1,12 @@
 // The line that fontcheck prints for a text.
 ghost use mathlib.Core.Path.{_≡_};
-ghost use mathlib.Core.List.{List, [], _∷_, _++_};
-ghost use Prim.Native.Nat.{ℕ, _+_, _-_, _<_, _≤_};
+ghost use mathlib.Core.List.{[], _∷_};
+ghost use Prim.Native.Nat.{_<_, _≤_};
 ghost use lib.ListN.{length};
 ghost use Rattle.laws.specs.Said.{accepted, refused};
 ghost use Rattle.hex.specs.Lines.{LF as Hex·LF};
-ghost use Rattle.fontline.specs.Lines.{checked, decimal, lineFor, lineWith, room};
+ghost use Rattle.fontline.specs.Lines.{checked, lineFor, lineWith, room};
+ghost use Rattle.fontline.specs.Steps.{ByteBefore, NumberBefore, WordsBefore};
 
 // The longest line, `refused K at P` with ten digits each, has 33 bytes.
 const ROOM: usize = 36;
@@ -60,9 +61,9 @@ fn ended() -> Line
 }
 
 // One byte before a line.
-fn before(byte: u8, line: Line) -> Line
+fn byte_before(byte: u8, line: Line) -> Line
     requires { ⌜ (0 < line .start) × (line .start ≤ room) ⌝ }
-    ensures { λ r. ⌜ (r .start + 1 ≡ line .start) × ((l : List ℕ) → line ≡ lineWith l → r ≡ lineWith (byte ∷ l)) ⌝ }
+    ensures { λ r. ⌜ ByteBefore byte line r ⌝ }
 {
     let start = line.start - 1;
     let mut bytes = line.bytes;
@@ -73,27 +74,27 @@ fn before(byte: u8, line: Line) -> Line
 // A number in decimal before a line.
 fn number_before(n: u32, line: Line) -> Line
     requires { ⌜ (10 ≤ line .start) × (line .start ≤ room) ⌝ }
-    ensures { λ r. ⌜ (line .start ≤ r .start + 10) × (r .start ≤ room) × ((l : List ℕ) → line ≡ lineWith l → r ≡ lineWith (decimal n l)) ⌝ }
+    ensures { λ r. ⌜ NumberBefore n line r ⌝ }
 {
     let mut rest = n;
     let mut line = line;
     while 9 < rest {
-        line = before(48 + (rest % 10) as u8, line);
+        line = byte_before(48 + (rest % 10) as u8, line);
         rest /= 10;
     }
-    before(48 + rest as u8, line)
+    byte_before(48 + rest as u8, line)
 }
 
 // Words before a line.
 fn words_before(words: &[u8], line: Line) -> Line
     requires { ⌜ (length (now words) ≤ line .start) × (line .start ≤ room) ⌝ }
-    ensures { λ r. ⌜ (r .start + length (now (words .entry)) ≡ line .start) × ((l : List ℕ) → line ≡ lineWith l → r ≡ lineWith (now (words .entry) ++ l)) ⌝ }
+    ensures { λ r. ⌜ WordsBefore (now (words .entry)) line r ⌝ }
 {
     let mut i = words.len();
     let mut line = line;
     while 0 < i {
         i -= 1;
-        line = before(words[i], line);
+        line = byte_before(words[i], line);
     }
     line
 }

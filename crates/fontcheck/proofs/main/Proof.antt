@@ -22,19 +22,27 @@ array-share-prefix-buffer : tie.Need-array-share-prefix-buffer
 array-share-prefix-buffer c = search needs
 
 slice-aggregate-check : tie.Need-slice-aggregate-check
-slice-aggregate-check c = sym (length-take-le _ _ (c .before .before .before .read-input .ensures .0))
+slice-aggregate-check c =
+    let within = (let r : tie.After-read-input = search in r .read-input .ensures .0) in
+    sym (length-take-le _ _ within)
 
 check-requires : tie.Need-check-requires
 check-requires c κs = search needs
 
 sub-write-all : tie.Need-sub-write-all
-sub-write-all c = omega (arith, line-room _ _ (c .before .check .ensures) .1)
+sub-write-all c =
+    let checked = (let k : tie.After-check = search in k .check .ensures) in
+    omega (arith, line-room _ _ checked .1)
 
 part-write-all-start : tie.Need-part-write-all-start
-part-write-all-start c = line-room _ _ (c .before .before .check .ensures) .1
+part-write-all-start c =
+    let checked = (let k : tie.After-check = search in k .check .ensures) in
+    line-room _ _ checked .1
 
 part-write-all-end : tie.Need-part-write-all-end
-part-write-all-end c = omega (arith, line-room _ _ (c .before .before .check .ensures) .0)
+part-write-all-end c =
+    let checked = (let k : tie.After-check = search in k .check .ensures) in
+    omega (arith, line-room _ _ checked .0)
 
 write-all-requires : tie.Need-write-all-requires
 write-all-requires c κs = search needs

@@ -1,10 +1,7 @@
 -- `fontline::accepted_line` meets its contract: the parts are put before one another from the line's end on, and the room is enough.
 -- Assumes nothing.
-use Rattle.fontline.proofs.Backed.{line-start}
-use Rattle.hex.specs.Lines.{LF}
-use Rattle.fontline.specs.Lines.{lineFor}
+use Rattle.fontline.proofs.Backed.{line-start, accepted-said}
 use native.Mathlib.Omega.{arith}
-use mathlib.Core.List.{[], _∷_}
 use borrow.Author.Needs.{needs}
 use Rattle.fontline.proofs.accepted_line.Statement.{statement}
 use Rattle.fontline.proofs.accepted_line.Tie as tie
@@ -16,15 +13,21 @@ ended-requires : tie.Need-ended-requires
 ended-requires c κs = search needs
 
 number-before-requires : tie.Need-number-before-requires
-number-before-requires c κs = let at = line-start (c .ended .result) (LF ∷ []) (c .ended .ensures) in (omega (arith, at), omega (arith, at))
+number-before-requires c κs =
+    let at = (let e : tie.After-ended = search in line-start _ _ (e .ended .ensures)) in
+    omega arith
 
 words-before-requires : tie.Need-words-before-requires
-words-before-requires c κs = let at = line-start (c .before .ended .result) (LF ∷ []) (c .before .ended .ensures) in let done = c .number-before .ensures in
-    (omega (arith, at, done .0), done .1)
+words-before-requires c κs =
+    let at = (let e : tie.After-ended = search in line-start _ _ (e .ended .ensures)) in
+    omega arith
 
 returns : tie.Need-returns
-unfolding lineFor
-returns c = c .words-before .ensures .1 _ (c .before .number-before .ensures .2 _ (c .before .before .ended .ensures))
+returns c =
+    let ended = (let e : tie.After-ended = search in e .ended .ensures) in
+    let number = (let n : tie.After-number-before = search in n .number-before .ensures) in
+    let words = (let w : tie.After-words-before = search in w .words-before .ensures) in
+    accepted-said ended number words
 
 pub accepted-line-spec : {M : Type 1} → statement M
 accepted-line-spec =

@@ -1,11 +1,7 @@
 -- `fontline::refused_line` meets its contract: the parts are put before one another from the line's end on, and the room is enough.
 -- Assumes nothing.
-use Rattle.fontline.proofs.Backed.{line-start}
-use Rattle.hex.specs.Lines.{LF}
-use Rattle.fontline.specs.Lines.{lineFor}
-use borrow.Author.Tests.{ne-eqb}
+use Rattle.fontline.proofs.Backed.{line-start, refused-said}
 use native.Mathlib.Omega.{arith}
-use mathlib.Core.List.{[], _∷_}
 use borrow.Author.Needs.{needs}
 use Rattle.fontline.proofs.refused_line.Statement.{statement}
 use Rattle.fontline.proofs.refused_line.Tie as tie
@@ -20,28 +16,27 @@ ended-requires : tie.Need-ended-requires
 ended-requires c κs = search needs
 
 number-before-requires : tie.Need-number-before-requires
-number-before-requires c κs = let at = line-start (c .ended .result) (LF ∷ []) (c .ended .ensures) in (omega (arith, at), omega (arith, at))
+number-before-requires c κs =
+    let at = (let e : tie.After-ended = search in line-start _ _ (e .ended .ensures)) in
+    omega arith
 
 words-before-requires : tie.Need-words-before-requires
-words-before-requires c κs = let at = line-start (c .before .ended .result) (LF ∷ []) (c .before .ended .ensures) in let done = c .number-before .ensures in
-    (omega (arith, at, done .0), done .1)
+words-before-requires c κs =
+    let at = (let e : tie.After-ended = search in line-start _ _ (e .ended .ensures)) in
+    omega arith
 
 number-before-requires-2 : tie.Need-number-before-requires-2
-number-before-requires-2 c κs = let at = line-start (c .before .before .ended .result) (LF ∷ []) (c .before .before .ended .ensures) in
-    let first = c .before .number-before .ensures in let done = c .words-before .ensures in
-    (omega (arith, at, first .0, done .0), omega (arith, first .1, done .0))
+number-before-requires-2 c κs =
+    let at = (let e : tie.After-ended = search in line-start _ _ (e .ended .ensures)) in
+    omega arith
 
 words-before-requires-2 : tie.Need-words-before-requires-2
-words-before-requires-2 c κs = let at = line-start (c .before .before .before .ended .result) (LF ∷ []) (c .before .before .before .ended .ensures) in
-    let first = c .before .before .number-before .ensures in let second = c .before .words-before .ensures in let done = c .number-before2 .ensures in
-    (omega (arith, at, first .0, second .0, done .0), done .1)
+words-before-requires-2 c κs =
+    let at = (let e : tie.After-ended = search in line-start _ _ (e .ended .ensures)) in
+    omega arith
 
 returns : tie.Need-returns
-unfolding lineFor
-returns c = let n = c .before .before .before .before .before .before .before .args .number in
-    rw (ne-eqb n 0 (omega arith))
-    (c .words-before2 .ensures .1 _ (c .before .number-before2 .ensures .2 _ (c .before .before .words-before .ensures .1 _
-    (c .before .before .before .number-before .ensures .2 _ (c .before .before .before .before .ended .ensures)))))
+returns c = search refused-said
 
 pub refused-line-spec : {M : Type 1} → statement M
 refused-line-spec =

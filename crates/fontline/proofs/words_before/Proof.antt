@@ -1,46 +1,42 @@
 -- `fontline::words_before` meets its contract: the words from place i on stand before the line; the measure is i.
 -- Assumes nothing.
 use borrow.Author.Needs.{needs}
-use Rattle.fontline.proofs.Backed.{word-more}
-use Rattle.fontline.specs.Lines.{lineWith}
-use lib.Seq.{drop-length}
-use lib.ListN.{length, drop}
+use Rattle.fontline.proofs.Backed.{Worded, worded-none, worded-more, worded-all}
 use native.Mathlib.Omega.{arith}
-use mathlib.Core.List.{List, _++_}
-use mathlib.Core.Path.{_≡_, refl, sym, _∙_, ap}
-use Prim.Native.Nat.{ℕ, _+_, _≤_}
 use Rattle.fontline.proofs.words_before.Statement.{statement}
 use Rattle.fontline.proofs.words_before.Tie as tie
 
 abbrev Inv-loop : tie.InvT-loop
-Inv-loop words i₀ line₀ i line = (i ≤ length words) × (line .start + length words ≡ line₀ .start + i) × ((l : List ℕ) → line₀ ≡ lineWith l → line ≡ lineWith (drop i words ++ l))
+Inv-loop words i₀ line₀ i line = Worded words line₀ i line
 
 abbrev μ-loop : tie.MeasureT-loop
 μ-loop words i₀ line₀ i line = i
 
 loop-holds : tie.Need-loop-holds Inv-loop μ-loop
-loop-holds c = let s = c .before in (omega arith, refl, λ l e. e ∙ sym (ap (λ (w : List ℕ). lineWith (w ++ l)) (drop-length (s .args .words .now))))
+loop-holds c = worded-none _ _
 
 sub-i : tie.Need-sub-i Inv-loop μ-loop
 sub-i c = search needs
 
-shared-slice-read-before : tie.Need-shared-slice-read-before Inv-loop μ-loop
-shared-slice-read-before c = search needs
+shared-slice-read-byte-before : tie.Need-shared-slice-read-byte-before Inv-loop μ-loop
+shared-slice-read-byte-before c = search needs
 
-before-requires : tie.Need-before-requires Inv-loop μ-loop
-before-requires c κs = (omega arith, omega arith)
+byte-before-requires : tie.Need-byte-before-requires Inv-loop μ-loop
+byte-before-requires c κs = omega arith
 
 loop-less : tie.Need-loop-less Inv-loop μ-loop
 loop-less c = search needs
 
 loop-again : tie.Need-loop-again Inv-loop μ-loop
-loop-again c = let s = c .before .before .before .before .before in let at = c .before .before .before .loop in let done = c .before2 .ensures in
-    (omega arith, omega (arith, done .0), λ l e. done .1 _ (at .inv .2 l e) ∙ ap lineWith (word-more (s .args .words .now) (at .i) (omega arith) (omega arith) l))
+loop-again c =
+    let turn = (let h : tie.At-loop Inv-loop μ-loop = search in h .loop) in
+    let done = (let b : tie.After-byte-before Inv-loop μ-loop = search in b .byte-before .ensures) in
+    worded-more (turn .inv) (omega arith) done
 
 returns : tie.Need-returns Inv-loop μ-loop
-returns c = let s = c .before .before .before in let at = c .before .loop in
-    let e : at .i ≡ 0 = omega arith in
-    (omega arith, λ l h. at .inv .2 l h ∙ ap (λ n. lineWith (drop n (s .args .words .now) ++ l)) e)
+returns c =
+    let turn = (let h : tie.At-loop Inv-loop μ-loop = search in h .loop) in
+    worded-all (turn .inv) (omega arith)
 
 pub words-before-spec : {M : Type 1} → statement M
 words-before-spec =
@@ -50,8 +46,8 @@ words-before-spec =
     μ-loop
     loop-holds
     sub-i
-    shared-slice-read-before
-    before-requires
+    shared-slice-read-byte-before
+    byte-before-requires
     loop-less
     loop-again
     returns)
