@@ -125,11 +125,12 @@ fn run(dac: Dac, count: usize, levels: &mut [u8]) -> Dac
 fn kept(dac: Dac) -> Dac
     ensures { λ r. ⌜ r ≡ keptOf dac ⌝ }
 {
+    let position = (dac.position as usize % PERIOD) as u16;
     let held = kept_pair(dac.held);
     let completed = kept_pair(dac.completed);
     let in_force = kept_pair(dac.in_force);
     Dac {
-        position: (dac.position as usize % PERIOD) as u16,
+        position,
         held,
         completed,
         in_force,

@@ -38,7 +38,8 @@ pub fn image_to_font(image: &[u8], font: &mut [u16]) -> Turned
     }
     let lack = first_lack(image);
     if lack < IMAGE_BYTES {
-        return Turned::NotAFont(lack as u32);
+        let place = lack as u32;
+        return Turned::NotAFont(place);
     }
     turn(image, font);
     Turned::Done

@@ -7,6 +7,12 @@ use Rattle.dac.specs.Running.{dacOf}
 use Rattle.dac.proofs.kept.Statement.{statement}
 use Rattle.dac.proofs.kept.Tie as tie
 
+cast-position : tie.Need-cast-position
+cast-position c = search needs
+
+cast-position-2 : tie.Need-cast-position-2
+cast-position-2 c = search needs
+
 kept-pair-requires : tie.Need-kept-pair-requires
 kept-pair-requires c κs = search needs
 
@@ -15,12 +21,6 @@ kept-pair-requires-2 c κs = search needs
 
 kept-pair-requires-3 : tie.Need-kept-pair-requires-3
 kept-pair-requires-3 c κs = search needs
-
-cast-t5 : tie.Need-cast-t5
-cast-t5 c = search needs
-
-cast-t7 : tie.Need-cast-t7
-cast-t7 c = search needs
 
 returns : tie.Need-returns
 returns c =
@@ -31,4 +31,4 @@ returns c =
     λ i. dacOf (dac .position % period) (held i) (completed i) (in-force i)
 
 pub kept-spec : {M : Type 1} → statement M
-kept-spec = tie.close (tie.spec kept-pair-requires kept-pair-requires-2 kept-pair-requires-3 cast-t5 cast-t7 returns)
+kept-spec = tie.close (tie.spec cast-position cast-position-2 kept-pair-requires kept-pair-requires-2 kept-pair-requires-3 returns)

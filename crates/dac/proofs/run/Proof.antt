@@ -39,9 +39,8 @@ slice-relend-prefix-lay c = search needs
 
 slice-aggregate-lay : tie.Need-slice-aggregate-lay
 slice-aggregate-lay c =
-    let a = (let p : tie.Start = search in p .args) in
-    let fits = (let p : tie.Start = search in p .pre) in
-    sym (length-take-le (a .count) (a .levels .now) (fits .inRoom))
+    let s = (let p : tie.Start = search in p .args .levels .now) in
+    sym (length-take-le _ s (omega arith))
 
 lay-requires : tie.Need-lay-requires
 lay-requires c κs = search needs

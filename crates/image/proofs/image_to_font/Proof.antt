@@ -29,8 +29,8 @@ returns-2 c =
 first-lack-requires : tie.Need-first-lack-requires
 first-lack-requires c κs = search needs
 
-cast-t6 : tie.Need-cast-t6
-cast-t6 c = search needs
+cast-place : tie.Need-cast-place
+cast-place c = search needs
 
 returns-3 : tie.Need-returns-3
 unfolding answerOf leftOf
@@ -60,4 +60,4 @@ returns-4 c =
     (simp (size, room, none), turned ∙ simp (size, room, none))
 
 pub image-to-font-spec : {M : Type 1} → statement M
-image-to-font-spec = tie.close (tie.spec returns returns-2 first-lack-requires cast-t6 returns-3 turn-requires same-length returns-4)
+image-to-font-spec = tie.close (tie.spec returns returns-2 first-lack-requires cast-place returns-3 turn-requires same-length returns-4)

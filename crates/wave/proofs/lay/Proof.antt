@@ -89,4 +89,5 @@ returns-3 c =
 pub lay-spec : {M : Type 1} → statement M
 lay-spec =
     tie.close
-    (tie.spec returns sub-least least-requires sub-least-2 least-requires-2 slice-relend-prefix-lay-within slice-aggregate-lay-within lay-within-requires same-length returns-2 sub-lay-on part-lay-on-start part-lay-on-end add-lay-on lay-on-requires same-length-2 returns-3)
+    (tie.spec returns sub-least least-requires sub-least-2 least-requires-2 slice-relend-prefix-lay-within slice-aggregate-lay-within
+    lay-within-requires same-length returns-2 sub-lay-on part-lay-on-start part-lay-on-end add-lay-on lay-on-requires same-length-2 returns-3)

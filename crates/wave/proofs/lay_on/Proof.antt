@@ -106,4 +106,6 @@ returns-2 c =
 pub lay-on-spec : {M : Type 1} → statement M
 lay-on-spec =
     tie.close
-    (tie.spec Inv-loop μ-loop loop-holds sub-loop add-end add-high-in high-in-requires sub-whole part-whole-start part-whole-end add-whole cast-whole whole-requires loop-less loop-again same-length returns sub-lay-within part-lay-within-start part-lay-within-end add-lay-within lay-within-requires same-length-2 returns-2)
+    (tie.spec Inv-loop μ-loop loop-holds sub-loop add-end add-high-in high-in-requires sub-whole part-whole-start part-whole-end add-whole cast-whole
+    whole-requires loop-less loop-again same-length returns sub-lay-within part-lay-within-start part-lay-within-end add-lay-within
+    lay-within-requires same-length-2 returns-2)
