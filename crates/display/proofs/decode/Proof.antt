@@ -5,7 +5,8 @@ use mathlib.Core.Bool.{true, false}
 use borrow.Author.Tests.{eq-eqb, ne-eqb}
 use native.Mathlib.Omega.{arith}
 use lib.Dec.{eqb}
-use Rattle.display.specs.Words.{codeOf, returnCode, spaceCode, markOf, kindOf}
+use Rattle.display.specs.Words.{codeOf, returnCode, spaceCode, markOf}
+use Rattle.display.proofs.Sound.{reads-end, reads-space, reads-return, reads-character}
 use borrow.Author.Needs.{needs}
 use Rattle.display.proofs.decode.Statement.{statement}
 use Rattle.display.proofs.decode.Tie as tie
@@ -29,36 +30,32 @@ cast-character : tie.Need-cast-character
 cast-character c = search needs
 
 returns : tie.Need-returns
-unfolding kindOf
 returns c =
     let w = (let s : tie.Start = search in s .args .word) in
     let space : eqb (codeOf w) spaceCode ≡ true = omega (arith, eq-eqb) in
     let end : markOf w ≡ true = search in
-    simp (space, end)
+    reads-end w space end
 
 returns-2 : tie.Need-returns-2
-unfolding kindOf
 returns-2 c =
     let w = (let s : tie.Start = search in s .args .word) in
     let space : eqb (codeOf w) spaceCode ≡ true = omega (arith, eq-eqb) in
     let end : markOf w ≡ false = search in
-    simp (space, end)
+    reads-space w space end
 
 returns-3 : tie.Need-returns-3
-unfolding kindOf
 returns-3 c =
     let w = (let s : tie.Start = search in s .args .word) in
     let space : eqb (codeOf w) spaceCode ≡ false = omega (arith, ne-eqb) in
     let return : eqb (codeOf w) returnCode ≡ true = omega (arith, eq-eqb) in
-    simp (space, return)
+    reads-return w space return
 
 returns-4 : tie.Need-returns-4
-unfolding kindOf
 returns-4 c =
     let w = (let s : tie.Start = search in s .args .word) in
     let space : eqb (codeOf w) spaceCode ≡ false = omega (arith, ne-eqb) in
     let return : eqb (codeOf w) returnCode ≡ false = omega (arith, ne-eqb) in
-    simp (space, return)
+    reads-character w space return
 
 pub decode-spec : {M : Type 1} → statement M
 decode-spec =
