@@ -41,7 +41,10 @@ cast-high c =
     omega (arith, fits (a .at + 1))
 
 shared-slice-read-high-2 : tie.Need-shared-slice-read-high-2
-shared-slice-read-high-2 c = search table-holds
+shared-slice-read-high-2 c =
+    let a = (let s : tie.Start = search in s .args) in
+    let fits : Fit (fInt w8) 0 (a .text .now) = search in
+    table-holds (a .digits .now) (a .text .now) (let s : tie.Start = search in s .pre .table) fits _
 
 returns-3 : tie.Need-returns-3
 returns-3 c =
@@ -63,7 +66,10 @@ cast-low c =
     omega (arith, fits (a .at + 2))
 
 shared-slice-read-low-2 : tie.Need-shared-slice-read-low-2
-shared-slice-read-low-2 c = search table-holds
+shared-slice-read-low-2 c =
+    let a = (let s : tie.Start = search in s .args) in
+    let fits : Fit (fInt w8) 0 (a .text .now) = search in
+    table-holds (a .digits .now) (a .text .now) (let s : tie.Start = search in s .pre .table) fits _
 
 returns-4 : tie.Need-returns-4
 returns-4 c =
@@ -104,7 +110,7 @@ add-decode : tie.Need-add-decode
 add-decode c = search needs
 
 decode-requires : tie.Need-decode-requires
-decode-requires c κs = record { table = search; reaches = omega arith; room = omega arith }
+decode-requires c κs = record { table = (let s : tie.Start = search in s .pre .table); reaches = omega arith; room = omega arith }
 
 same-length : tie.Need-same-length
 same-length c = search needs
