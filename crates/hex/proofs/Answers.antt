@@ -47,9 +47,9 @@ pub bytes-fit : {text : List ℕ} {at : ℕ} {bytes : List ℕ} {r : Line} → P
 bytes-fit parsed fit = fit
 
 -- a refusal is an answer by its number and place
-pub refused-by : {text scratch : List ℕ} {x : Outcome} {number place : ℕ} → refused number place ≡ verdict text → said x .number ≡ number → said x .place ≡ place
-    → said x .value ≡ 0 → 0 < number → Collected text scratch x
-refused-by is number place value some = record { says = said-by is number place value; held = λ e. absurd (omega arith) }
+pub refused-by : {text scratch : List ℕ} {x : Outcome} {number place : ℕ} → refused number place ≡ verdict text
+    → (said x .number ≡ number) × (said x .place ≡ place) × (said x .value ≡ 0) × (0 < number) → Collected text scratch x
+refused-by is (number, place, value, some) = record { says = said-by is number place value; held = λ e. absurd (omega arith) }
 
 module _ {text : List ℕ} {at count : ℕ} {scratch : List ℕ} (before : Passed text at count scratch) where
   pub over : length text ≤ at → refused 12 at ≡ verdict text
@@ -111,14 +111,14 @@ module _ {text : List ℕ} {at count : ℕ} {scratch bytes : List ℕ} {sum next
       not-zero : typeOf (recordAt text at) ≡ 0 → ⊥
       not-zero e = omega (arith, typed)
 
-      pub met-long-end : (getD bytes 0 0 ≡ 0 → ⊥) → refused 9 at ≡ verdict text
+      met-long-end : (getD bytes 0 0 ≡ 0 → ⊥) → refused 9 at ≡ verdict text
       met-long-end h = fault-is 9 (omega arith) (fault-type _ _ some summed (long-end _ typed (λ e. h (byte 0 (omega arith) ∙ e))) not-zero)
 
       module _ (no-data : getD bytes 0 0 ≡ 0) where
         empty : lengthOf (recordAt text at) ≡ 0
         empty = sym (byte 0 (omega arith)) ∙ no-data
 
-        pub met-far-end : (256 * getD bytes 1 0 + getD bytes 2 0 ≡ 0 → ⊥) → refused 9 at ≡ verdict text
+        met-far-end : (256 * getD bytes 1 0 + getD bytes 2 0 ≡ 0 → ⊥) → refused 9 at ≡ verdict text
         met-far-end h = fault-is 9 (omega arith) (fault-type _ _ some summed (far-end _ typed empty (λ e. h (address-is ∙ e))) not-zero)
 
         module _ (at-zero : 256 * getD bytes 1 0 + getD bytes 2 0 ≡ 0) where
@@ -128,16 +128,16 @@ module _ {text : List ℕ} {at count : ℕ} {scratch bytes : List ℕ} {sum next
           good : faultOf (take (before .k) (records text)) (recordAt text at) ≡ 0
           good = fault-end _ _ some summed ended
 
-          pub met-more : next < length text → refused 12 next ≡ verdict text
+          met-more : next < length text → refused 12 next ≡ verdict text
           met-more h =
               rw next-is
               (sym (verdict-more text at count scratch before more good ended (not-last text at count scratch before more shaped (rw next-is at h))))
 
-          pub met-done : length text ≤ next → accepted count ≡ verdict text
+          met-done : length text ≤ next → accepted count ≡ verdict text
           met-done h = sym (verdict-done text at count scratch before more good ended (is-last text at count scratch before more shaped (rw next-is at h)) empty)
 
           -- the end record gives no byte, so the scratch holds all that the records give
-          pub met-all : length text ≤ next → scratch ≡ tabulate 8192 (byteIn 256 (records text))
+          met-all : length text ≤ next → scratch ≡ tabulate 8192 (byteIn 256 (records text))
           unfolding gives
           met-all h =
               let last = is-last text at count scratch before more shaped (rw next-is at h) in
@@ -161,14 +161,14 @@ module _ {text : List ℕ} {at count : ℕ} {scratch bytes : List ℕ} {sum next
       no-end : isEnd (recordAt text at) ≡ false
       no-end = other-type _ (λ e. kind (byte 3 (omega arith) ∙ e))
 
-      pub met-type : (getD bytes 3 0 ≡ 0 → ⊥) → refused 9 at ≡ verdict text
+      met-type : (getD bytes 3 0 ≡ 0 → ⊥) → refused 9 at ≡ verdict text
       met-type h = fault-is 9 (omega arith) (fault-type _ _ some summed no-end (λ e. h (byte 3 (omega arith) ∙ e)))
 
       module _ (plain : getD bytes 3 0 ≡ 0) where
         typed-data : typeOf (recordAt text at) ≡ 0
         typed-data = sym (byte 3 (omega arith)) ∙ plain
 
-        pub met-past : 8192 < 256 * getD bytes 1 0 + getD bytes 2 0 + getD bytes 0 0 → refused 10 at ≡ verdict text
+        met-past : 8192 < 256 * getD bytes 1 0 + getD bytes 2 0 + getD bytes 0 0 → refused 10 at ≡ verdict text
         met-past h = fault-is 10 (omega arith) (fault-past _ _ some summed no-end typed-data (omega (arith, byte 0 (omega arith), address-is)))
 
         module _ (fits : 256 * getD bytes 1 0 + getD bytes 2 0 + getD bytes 0 0 ≤ 8192) {after : List ℕ} {fresh : Bool}
@@ -183,7 +183,7 @@ module _ {text : List ℕ} {at count : ℕ} {scratch bytes : List ℕ} {sum next
           unfolding found
           found-is = fresh-here text at count scratch before more shaped bytes (met .front) _ _ (byte 0 (omega arith)) address-is fits
 
-          pub met-twice : fresh ≡ false → refused 11 at ≡ verdict text
+          met-twice : fresh ≡ false → refused 11 at ≡ verdict text
           unfolding found
           met-twice e =
               let other = eqb-false found (getD bytes 0 0) (sym (stored .tells) ∙ e) in
@@ -192,7 +192,7 @@ module _ {text : List ℕ} {at count : ℕ} {scratch bytes : List ℕ} {sum next
               (fault-twice _ _ some summed no-end typed-data ends-within
               (rw (← found-is, ← byte 0 (omega arith)) (omega arith)))
 
-          pub met-passed : fresh ≡ true → Passed text next (count + getD bytes 0 0) after
+          met-passed : fresh ≡ true → Passed text next (count + getD bytes 0 0) after
           unfolding found
           met-passed e =
               let all : lengthOf (recordAt text at) ≤ freshIn (take (before .k) (records text)) (recordAt text at) =
@@ -200,3 +200,40 @@ module _ {text : List ℕ} {at count : ℕ} {scratch bytes : List ℕ} {sum next
               rw (stored .stored e, next-is)
               (passed-more text at count scratch before more shaped bytes (met .front) _ _ (byte 0 (omega arith)) address-is fits no-end
               (fault-none _ _ some summed no-end typed-data ends-within all) all)
+
+  -- the same by all that the code tests on the way
+  abbrev n : ℕ
+  n = getD bytes 0 0
+
+  abbrev address : ℕ
+  address = 256 * getD bytes 1 0 + getD bytes 2 0
+
+  abbrev kind : ℕ
+  kind = getD bytes 3 0
+
+  pub said-long-end : (sum ≡ 0) × (kind ≡ 1) × (n ≡ 0 → ⊥) → refused 9 at ≡ verdict text
+  said-long-end (z, k, h) = met-long-end z k h
+
+  pub said-far-end : (sum ≡ 0) × (kind ≡ 1) × (n ≡ 0) × (address ≡ 0 → ⊥) → refused 9 at ≡ verdict text
+  said-far-end (z, k, e, h) = met-far-end z k e h
+
+  pub said-more : (sum ≡ 0) × (kind ≡ 1) × (n ≡ 0) × (address ≡ 0) × (next < length text) → refused 12 next ≡ verdict text
+  said-more (z, k, e, a, h) = met-more z k e a h
+
+  pub said-done : (sum ≡ 0) × (kind ≡ 1) × (n ≡ 0) × (address ≡ 0) × (length text ≤ next)
+      → {x : Outcome} → (said x .number ≡ 0) × (said x .place ≡ 0) × (said x .value ≡ count) → Collected text scratch x
+  said-done (z, k, e, a, h) (number, place, value) = record { says = said-by (met-done z k e a h) number place value; held = λ d. met-all z k e a h }
+
+  pub said-type : (sum ≡ 0) × (kind ≡ 1 → ⊥) × (kind ≡ 0 → ⊥) → refused 9 at ≡ verdict text
+  said-type (z, k, h) = met-type z k h
+
+  pub said-past : (sum ≡ 0) × (kind ≡ 1 → ⊥) × (kind ≡ 0) × (8192 < address + n) → refused 10 at ≡ verdict text
+  said-past (z, k, d, h) = met-past z k d h
+
+  pub said-twice : {after : List ℕ} {fresh : Bool} → Stored bytes n address scratch after fresh
+      → (sum ≡ 0) × (kind ≡ 1 → ⊥) × (kind ≡ 0) × (address + n ≤ 8192) → fresh ≡ false → refused 11 at ≡ verdict text
+  said-twice stored (z, k, d, h) e = met-twice z k d h stored e
+
+  pub said-passed : {after : List ℕ} {fresh : Bool} → Stored bytes n address scratch after fresh
+      → (sum ≡ 0) × (kind ≡ 1 → ⊥) × (kind ≡ 0) × (address + n ≤ 8192) → fresh ≡ true → Passed text next (count + n) after
+  said-passed stored (z, k, d, h) e = met-passed z k d h stored e

@@ -59,43 +59,57 @@ module _ (text : List ℕ) (place : ℕ) (here : place < length text) where
     unfolding line-size
     next-here = omega (arith, next-is, ap endLength (body-after text place shape))
 
--- the reader's tests: n bytes are asked for, and decoded; where they end, and where the line after them starts
-module _ {text : List ℕ} {place n : ℕ} {bytes : List ℕ} {sum : ℕ} (decoded : Decoded text (place + 1) n bytes sum) (asked : n ≡ sizeAt text place)
-    (reaches : place + 1 + 2 * n ≤ length text) where
-  pub no-sum : 255 < sum → Shape text place → ⊥
-  no-sum h shape = omega (arith, decoded .summed, sum-good text (place + 1) n reaches (λ k g. shape .digits k (omega arith)))
+-- the reader's tests: n bytes are asked for, and within the text
+pub record Asked (text : List ℕ) (place n : ℕ) : Type 0 where
+  pub size : n ≡ sizeAt text place
+  pub reaches : place + 1 + 2 * n ≤ length text
 
-  module _ (end next : ℕ) (ended : next ≡ pastEnd text end) (whole : end ≡ place + 1 + 2 * n) where
-    pub no-end : next ≡ 0 → Shape text place → ⊥
-    no-end h shape =
-        let e : place + 1 + 2 * sizeAt text place ≡ end = omega arith in
+-- all of them passed: the line begins with a colon, its digits sum, and its end stands where they end
+pub record Passes (text : List ℕ) (place n sum end next : ℕ) : Type 0 where
+  pub asked : Asked text place n
+  pub whole : end ≡ place + 1 + 2 * n
+  pub here : place < length text
+  pub begins : getD text place 0 ≡ 58
+  pub summed : sum < 256
+  pub some : next ≡ 0 → ⊥
+
+module _ {text : List ℕ} {place n : ℕ} {bytes : List ℕ} {sum : ℕ} (decoded : Decoded text (place + 1) n bytes sum) where
+  pub no-sum : Asked text place n × (255 < sum) → Shape text place → ⊥
+  no-sum (asked, h) shape =
+      omega (arith, asked, decoded .summed, sum-good text (place + 1) n (asked .reaches) (λ k g. shape .digits k (omega (arith, asked))))
+
+  -- where they end, and where the line after them starts
+  module _ {end next : ℕ} (ended : next ≡ pastEnd text end) where
+    pub no-end : Asked text place n × (end ≡ place + 1 + 2 * n) × (next ≡ 0) → Shape text place → ⊥
+    no-end (asked, whole, none) shape =
+        let e : place + 1 + 2 * sizeAt text place ≡ end = omega (arith, asked) in
         omega (arith, past-some text end (rw (← e) (shape .ends)))
 
-    module _ (here : place < length text) (begins : getD text place 0 ≡ 58) (summed : sum < 256) (some : next ≡ 0 → ⊥) where
+    module _ (passes : Passes text place n sum end next) where
       digits-here : (k : ℕ) → k < 2 * n → digit (getD text (place + 1 + k) 0) < 16
-      digits-here = sum-digits text (place + 1) n reaches (omega (arith, decoded .summed))
+      digits-here = sum-digits text (place + 1) n (passes .asked .reaches) (omega (arith, passes .summed, decoded .summed))
 
       end-is : end ≡ place + 1 + 2 * sizeAt text place
-      end-is = omega arith
+      end-is = omega (arith, passes)
 
       ends-here : atEnd (drop end text) ≡ true
-      ends-here = past-ends text end (λ e. some (ended ∙ e))
+      ends-here = past-ends text end (λ e. passes .some (ended ∙ e))
 
       shape-found : Shape text place
       shape-found =
           record {
-            begins = begins;
-            digits = λ k h. digits-here k (omega arith);
-            reaches = omega arith;
+            begins = passes .begins;
+            digits = λ k h. digits-here k (omega (arith, passes));
+            reaches = omega (arith, passes);
             ends = rw (← end-is) ends-here;
           }
 
       pub is-shaped : Parsed text place bytes (Shaped sum next)
       unfolding lineAt
       is-shaped =
-          let rec : recordAt text place ≡ bytesFrom text (place + 1) n = record-here text place here shape-found ∙ ap (bytesFrom text (place + 1)) (sym asked) in
-          let sums : sum ≡ sumOf (recordAt text place) = decoded .summed ∙ sum-good text (place + 1) n reaches digits-here ∙ ap sumOf (sym rec) in
+          let rec : recordAt text place ≡ bytesFrom text (place + 1) n = record-here text place (passes .here) shape-found ∙ ap (bytesFrom text (place + 1)) (sym (passes .asked .size)) in
+          let sums : sum ≡ sumOf (recordAt text place) = decoded .summed ∙ sum-good text (place + 1) n (passes .asked .reaches) digits-here ∙ ap sumOf (sym rec) in
           let after : next ≡ nextAt text place =
-          ended ∙ past-some text end ends-here ∙ ap (λ m. m + endLength (drop m text)) end-is ∙ sym (next-here text place here shape-found) in
+          ended ∙ past-some text end ends-here ∙ ap (λ m. m + endLength (drop m text)) end-is ∙ sym (next-here text place (passes .here) shape-found) in
           let size : length (recordAt text place) ≡ n = ap length rec ∙ length-tabulate n _ in
-          record { line = rw (shape-is text place shape-found, sums, after); front = rw size (decoded .front summed ∙ sym rec) }
+          record { line = rw (shape-is text place shape-found, sums, after); front = rw size (decoded .front (passes .summed) ∙ sym rec) }

@@ -1,8 +1,7 @@
 -- `hex::collect` meets its contract: how far the reading has come (`Passed`) is the invariant, and each answer is the verdict at the line met; the measure is what is left of the text.
 -- Assumes nothing.
 use Rattle.hex.proofs.Passed.{passed-none, unfilled-length}
-use Rattle.hex.proofs.Answers.{Turn, bytes-fit, refused-by, over, meets, meets-none, met-next, met-sum, met-long-end, met-far-end, met-more, met-done, met-all, met-type, met-past, met-twice, met-passed}
-use Rattle.laws.proofs.Said.{said-by}
+use Rattle.hex.proofs.Answers.{Turn, bytes-fit, refused-by, over, meets, meets-none, met-next, met-sum, said-long-end, said-far-end, said-more, said-done, said-type, said-past, said-twice, said-passed}
 use borrow.Author.Needs.{needs}
 use native.Mathlib.Omega.{arith}
 use lib.ListN.{length}
@@ -47,14 +46,15 @@ returns c =
     let turn = (let h : tie.At-loop Inv-loop μ-loop = search in h .loop) in
     let parsed = (let p : tie.After-parse Inv-loop μ-loop = search in p .parse .ensures) in
     let told = (let l : tie.After-enum-told Inv-loop μ-loop = search in l .enum-told .given .1) in
-    refused-by (meets-none (turn .inv .passed) (omega arith) parsed told) (omega arith) (omega arith) (omega arith) (omega arith)
+    refused-by (meets-none (turn .inv .passed) (omega arith) parsed told) (omega arith)
 
 cast-after : tie.Need-cast-after Inv-loop μ-loop
 cast-after c =
-    let turn = (let h : tie.At-loop Inv-loop μ-loop = search in h .loop) in
-    let parsed = (let p : tie.After-parse Inv-loop μ-loop = search in p .parse .ensures) in
-    let told = (let l : tie.After-sum Inv-loop μ-loop = search in l .sum .given .1) in
-    let met = meets (turn .inv .passed) (omega arith) parsed told in
+    let met =
+    (let l : tie.After-sum Inv-loop μ-loop = search in
+    let p : tie.After-parse Inv-loop μ-loop = search in
+    let i : tie.In-loop Inv-loop μ-loop = search in
+    meets (i .before .loop .inv .passed) (i .loop-test .taken) (p .parse .ensures) (l .sum .given .1)) in
     omega (arith, met-next met .0)
 
 same-length-3 : tie.Need-same-length-3 Inv-loop μ-loop
@@ -65,11 +65,12 @@ same-length-4 c = search needs
 
 returns-2 : tie.Need-returns-2 Inv-loop μ-loop
 returns-2 c =
-    let turn = (let h : tie.At-loop Inv-loop μ-loop = search in h .loop) in
-    let parsed = (let p : tie.After-parse Inv-loop μ-loop = search in p .parse .ensures) in
-    let told = (let l : tie.After-sum Inv-loop μ-loop = search in l .sum .given .1) in
-    let met = meets (turn .inv .passed) (omega arith) parsed told in
-    refused-by (met-sum met (omega arith)) (omega arith) (omega arith) (omega arith) (omega arith)
+    let met =
+    (let l : tie.After-sum Inv-loop μ-loop = search in
+    let p : tie.After-parse Inv-loop μ-loop = search in
+    let i : tie.In-loop Inv-loop μ-loop = search in
+    meets (i .before .loop .inv .passed) (i .loop-test .taken) (p .parse .ensures) (l .sum .given .1)) in
+    refused-by (met-sum met (omega arith)) (omega arith)
 
 slice-read-n : tie.Need-slice-read-n Inv-loop μ-loop
 slice-read-n c = search needs
@@ -121,11 +122,12 @@ same-length-6 c = search needs
 
 returns-3 : tie.Need-returns-3 Inv-loop μ-loop
 returns-3 c =
-    let turn = (let h : tie.At-loop Inv-loop μ-loop = search in h .loop) in
-    let parsed = (let p : tie.After-parse Inv-loop μ-loop = search in p .parse .ensures) in
-    let told = (let l : tie.After-sum Inv-loop μ-loop = search in l .sum .given .1) in
-    let met = meets (turn .inv .passed) (omega arith) parsed told in
-    refused-by (met-long-end met (omega arith) (omega arith) (omega arith)) (omega arith) (omega arith) (omega arith) (omega arith)
+    let met =
+    (let l : tie.After-sum Inv-loop μ-loop = search in
+    let p : tie.After-parse Inv-loop μ-loop = search in
+    let i : tie.In-loop Inv-loop μ-loop = search in
+    meets (i .before .loop .inv .passed) (i .loop-test .taken) (p .parse .ensures) (l .sum .given .1)) in
+    refused-by (said-long-end met (omega arith)) (omega arith)
 
 same-length-7 : tie.Need-same-length-7 Inv-loop μ-loop
 same-length-7 c = search needs
@@ -135,11 +137,12 @@ same-length-8 c = search needs
 
 returns-4 : tie.Need-returns-4 Inv-loop μ-loop
 returns-4 c =
-    let turn = (let h : tie.At-loop Inv-loop μ-loop = search in h .loop) in
-    let parsed = (let p : tie.After-parse Inv-loop μ-loop = search in p .parse .ensures) in
-    let told = (let l : tie.After-sum Inv-loop μ-loop = search in l .sum .given .1) in
-    let met = meets (turn .inv .passed) (omega arith) parsed told in
-    refused-by (met-far-end met (omega arith) (omega arith) (omega arith) (omega arith)) (omega arith) (omega arith) (omega arith) (omega arith)
+    let met =
+    (let l : tie.After-sum Inv-loop μ-loop = search in
+    let p : tie.After-parse Inv-loop μ-loop = search in
+    let i : tie.In-loop Inv-loop μ-loop = search in
+    meets (i .before .loop .inv .passed) (i .loop-test .taken) (p .parse .ensures) (l .sum .given .1)) in
+    refused-by (said-far-end met (omega arith)) (omega arith)
 
 same-length-9 : tie.Need-same-length-9 Inv-loop μ-loop
 same-length-9 c = search needs
@@ -149,11 +152,12 @@ same-length-10 c = search needs
 
 returns-5 : tie.Need-returns-5 Inv-loop μ-loop
 returns-5 c =
-    let turn = (let h : tie.At-loop Inv-loop μ-loop = search in h .loop) in
-    let parsed = (let p : tie.After-parse Inv-loop μ-loop = search in p .parse .ensures) in
-    let told = (let l : tie.After-sum Inv-loop μ-loop = search in l .sum .given .1) in
-    let met = meets (turn .inv .passed) (omega arith) parsed told in
-    refused-by (met-more met (omega arith) (omega arith) (omega arith) (omega arith) (omega arith)) (omega arith) (omega arith) (omega arith) (omega arith)
+    let met =
+    (let l : tie.After-sum Inv-loop μ-loop = search in
+    let p : tie.After-parse Inv-loop μ-loop = search in
+    let i : tie.In-loop Inv-loop μ-loop = search in
+    meets (i .before .loop .inv .passed) (i .loop-test .taken) (p .parse .ensures) (l .sum .given .1)) in
+    refused-by (said-more met (omega arith)) (omega arith)
 
 same-length-11 : tie.Need-same-length-11 Inv-loop μ-loop
 same-length-11 c = search needs
@@ -163,11 +167,12 @@ same-length-12 c = search needs
 
 returns-6 : tie.Need-returns-6 Inv-loop μ-loop
 returns-6 c =
-    let turn = (let h : tie.At-loop Inv-loop μ-loop = search in h .loop) in
-    let parsed = (let p : tie.After-parse Inv-loop μ-loop = search in p .parse .ensures) in
-    let told = (let l : tie.After-sum Inv-loop μ-loop = search in l .sum .given .1) in
-    let met = meets (turn .inv .passed) (omega arith) parsed told in
-    record { says = said-by (met-done met (omega arith) (omega arith) (omega arith) (omega arith) (omega arith)) (omega arith) (omega arith) (omega arith); held = λ e. met-all met (omega arith) (omega arith) (omega arith) (omega arith) (omega arith) }
+    let met =
+    (let l : tie.After-sum Inv-loop μ-loop = search in
+    let p : tie.After-parse Inv-loop μ-loop = search in
+    let i : tie.In-loop Inv-loop μ-loop = search in
+    meets (i .before .loop .inv .passed) (i .loop-test .taken) (p .parse .ensures) (l .sum .given .1)) in
+    said-done met (omega arith) (omega arith)
 
 same-length-13 : tie.Need-same-length-13 Inv-loop μ-loop
 same-length-13 c = search needs
@@ -177,11 +182,12 @@ same-length-14 c = search needs
 
 returns-7 : tie.Need-returns-7 Inv-loop μ-loop
 returns-7 c =
-    let turn = (let h : tie.At-loop Inv-loop μ-loop = search in h .loop) in
-    let parsed = (let p : tie.After-parse Inv-loop μ-loop = search in p .parse .ensures) in
-    let told = (let l : tie.After-sum Inv-loop μ-loop = search in l .sum .given .1) in
-    let met = meets (turn .inv .passed) (omega arith) parsed told in
-    refused-by (met-type met (omega arith) (omega arith) (omega arith)) (omega arith) (omega arith) (omega arith) (omega arith)
+    let met =
+    (let l : tie.After-sum Inv-loop μ-loop = search in
+    let p : tie.After-parse Inv-loop μ-loop = search in
+    let i : tie.In-loop Inv-loop μ-loop = search in
+    meets (i .before .loop .inv .passed) (i .loop-test .taken) (p .parse .ensures) (l .sum .given .1)) in
+    refused-by (said-type met (omega arith)) (omega arith)
 
 add-if7 : tie.Need-add-if7 Inv-loop μ-loop
 add-if7 c =
@@ -197,11 +203,12 @@ same-length-16 c = search needs
 
 returns-8 : tie.Need-returns-8 Inv-loop μ-loop
 returns-8 c =
-    let turn = (let h : tie.At-loop Inv-loop μ-loop = search in h .loop) in
-    let parsed = (let p : tie.After-parse Inv-loop μ-loop = search in p .parse .ensures) in
-    let told = (let l : tie.After-sum Inv-loop μ-loop = search in l .sum .given .1) in
-    let met = meets (turn .inv .passed) (omega arith) parsed told in
-    refused-by (met-past met (omega arith) (omega arith) (omega arith) (omega arith)) (omega arith) (omega arith) (omega arith) (omega arith)
+    let met =
+    (let l : tie.After-sum Inv-loop μ-loop = search in
+    let p : tie.After-parse Inv-loop μ-loop = search in
+    let i : tie.In-loop Inv-loop μ-loop = search in
+    meets (i .before .loop .inv .passed) (i .loop-test .taken) (p .parse .ensures) (l .sum .given .1)) in
+    refused-by (said-past met (omega arith)) (omega arith)
 
 store-requires : tie.Need-store-requires Inv-loop μ-loop
 store-requires c κs =
@@ -218,20 +225,22 @@ add-count c = search needs
 
 loop-less : tie.Need-loop-less Inv-loop μ-loop
 loop-less c =
-    let turn = (let h : tie.At-loop Inv-loop μ-loop = search in h .loop) in
-    let parsed = (let p : tie.After-parse Inv-loop μ-loop = search in p .parse .ensures) in
-    let told = (let l : tie.After-sum Inv-loop μ-loop = search in l .sum .given .1) in
-    let met = meets (turn .inv .passed) (omega arith) parsed told in
+    let met =
+    (let l : tie.After-sum Inv-loop μ-loop = search in
+    let p : tie.After-parse Inv-loop μ-loop = search in
+    let i : tie.In-loop Inv-loop μ-loop = search in
+    meets (i .before .loop .inv .passed) (i .loop-test .taken) (p .parse .ensures) (l .sum .given .1)) in
     omega (arith, met-next met .1)
 
 loop-again : tie.Need-loop-again Inv-loop μ-loop
 loop-again c =
-    let turn = (let h : tie.At-loop Inv-loop μ-loop = search in h .loop) in
-    let parsed = (let p : tie.After-parse Inv-loop μ-loop = search in p .parse .ensures) in
-    let told = (let l : tie.After-sum Inv-loop μ-loop = search in l .sum .given .1) in
-    let met = meets (turn .inv .passed) (omega arith) parsed told in
+    let met =
+    (let l : tie.After-sum Inv-loop μ-loop = search in
+    let p : tie.After-parse Inv-loop μ-loop = search in
+    let i : tie.In-loop Inv-loop μ-loop = search in
+    meets (i .before .loop .inv .passed) (i .loop-test .taken) (p .parse .ensures) (l .sum .given .1)) in
     let stored = (let k : tie.After-store Inv-loop μ-loop = search in k .store .ensures) in
-    record { passed = met-passed met (omega arith) (omega arith) (omega arith) (omega arith) stored (search); room = omega arith; whole = omega arith }
+    record { passed = said-passed met stored (omega arith) (search); room = omega arith; whole = omega arith }
 
 same-length-17 : tie.Need-same-length-17 Inv-loop μ-loop
 same-length-17 c = search needs
@@ -241,12 +250,13 @@ same-length-18 c = search needs
 
 returns-9 : tie.Need-returns-9 Inv-loop μ-loop
 returns-9 c =
-    let turn = (let h : tie.At-loop Inv-loop μ-loop = search in h .loop) in
-    let parsed = (let p : tie.After-parse Inv-loop μ-loop = search in p .parse .ensures) in
-    let told = (let l : tie.After-sum Inv-loop μ-loop = search in l .sum .given .1) in
-    let met = meets (turn .inv .passed) (omega arith) parsed told in
+    let met =
+    (let l : tie.After-sum Inv-loop μ-loop = search in
+    let p : tie.After-parse Inv-loop μ-loop = search in
+    let i : tie.In-loop Inv-loop μ-loop = search in
+    meets (i .before .loop .inv .passed) (i .loop-test .taken) (p .parse .ensures) (l .sum .given .1)) in
     let stored = (let k : tie.After-store Inv-loop μ-loop = search in k .store .ensures) in
-    refused-by (met-twice met (omega arith) (omega arith) (omega arith) (omega arith) stored (search)) (omega arith) (omega arith) (omega arith) (omega arith)
+    refused-by (said-twice met stored (omega arith) (search)) (omega arith)
 
 cast-end : tie.Need-cast-end Inv-loop μ-loop
 cast-end c = search needs
@@ -260,7 +270,7 @@ same-length-20 c = search needs
 returns-10 : tie.Need-returns-10 Inv-loop μ-loop
 returns-10 c =
     let turn = (let h : tie.At-loop Inv-loop μ-loop = search in h .loop) in
-    refused-by (over (turn .inv .passed) (omega arith)) (omega arith) (omega arith) (omega arith) (omega arith)
+    refused-by (over (turn .inv .passed) (omega arith)) (omega arith)
 
 pub collect-spec : {M : Type 1} → statement M
 collect-spec =

@@ -5,11 +5,8 @@ use borrow.Table.Referent.{fInt}
 use borrow.Rule.Slice.Know.{Fit}
 use borrow.Author.Needs.{needs}
 use Rattle.hex.proofs.Steps.{table-tells, table-holds, Decoding, decoding-none, decoding-more, decoding-all, decoded-none}
-use Rattle.hex.specs.Digits.{digit}
 use native.Mathlib.Omega.{arith}
-use lib.ListN.{getD}
-use mathlib.Core.Path.{_≡_}
-use Prim.Native.Nat.{ℕ, _≤_, _-_, _+_, _*_}
+use Prim.Native.Nat.{_≤_, _-_, _+_, _*_}
 use Rattle.hex.proofs.decode.Statement.{statement}
 use Rattle.hex.proofs.decode.Tie as tie
 
@@ -35,11 +32,14 @@ cast-high : tie.Need-cast-high Inv-loop μ-loop
 cast-high c =
     let a = (let s : tie.Start Inv-loop μ-loop = search in s .args) in
     let turn = (let h : tie.At-loop Inv-loop μ-loop = search in h .loop) in
-    let small : Fit (fInt w8) 0 (a .text .now) = search in
-    omega (arith, small (a .from + 2 * turn .i))
+    let fits : Fit (fInt w8) 0 (a .text .now) = search in
+    omega (arith, fits (a .from + 2 * turn .i))
 
 shared-slice-read-high-2 : tie.Need-shared-slice-read-high-2 Inv-loop μ-loop
-shared-slice-read-high-2 c = search table-holds
+shared-slice-read-high-2 c =
+    let a = (let s : tie.Start Inv-loop μ-loop = search in s .args) in
+    let fits : Fit (fInt w8) 0 (a .text .now) = search in
+    table-holds (a .digits .now) (a .text .now) (let s : tie.Start Inv-loop μ-loop = search in s .pre .table) fits _
 
 same-length : tie.Need-same-length Inv-loop μ-loop
 same-length c = search needs
@@ -48,7 +48,8 @@ returns : tie.Need-returns Inv-loop μ-loop
 returns c =
     let a = (let s : tie.Start Inv-loop μ-loop = search in s .args) in
     let turn = (let h : tie.At-loop Inv-loop μ-loop = search in h .loop) in
-    let tells : (k : ℕ) → getD (a .digits .now) (getD (a .text .now) k 0) 0 ≡ digit (getD (a .text .now) k 0) = search table-tells in
+    let fits : Fit (fInt w8) 0 (a .text .now) = search in
+    let tells = table-tells (a .digits .now) (a .text .now) (let s : tie.Start Inv-loop μ-loop = search in s .pre .table) fits in
     decoded-none (a .text .now) (a .from) (a .n) _ (a .from + 2 * turn .i) (omega arith) (omega arith) (omega arith) (omega (arith, tells (a .from + 2 * turn .i)))
 
 mul-low : tie.Need-mul-low Inv-loop μ-loop
@@ -67,11 +68,14 @@ cast-low : tie.Need-cast-low Inv-loop μ-loop
 cast-low c =
     let a = (let s : tie.Start Inv-loop μ-loop = search in s .args) in
     let turn = (let h : tie.At-loop Inv-loop μ-loop = search in h .loop) in
-    let small : Fit (fInt w8) 0 (a .text .now) = search in
-    omega (arith, small (a .from + 2 * turn .i + 1))
+    let fits : Fit (fInt w8) 0 (a .text .now) = search in
+    omega (arith, fits (a .from + 2 * turn .i + 1))
 
 shared-slice-read-low-2 : tie.Need-shared-slice-read-low-2 Inv-loop μ-loop
-shared-slice-read-low-2 c = search table-holds
+shared-slice-read-low-2 c =
+    let a = (let s : tie.Start Inv-loop μ-loop = search in s .args) in
+    let fits : Fit (fInt w8) 0 (a .text .now) = search in
+    table-holds (a .digits .now) (a .text .now) (let s : tie.Start Inv-loop μ-loop = search in s .pre .table) fits _
 
 same-length-2 : tie.Need-same-length-2 Inv-loop μ-loop
 same-length-2 c = search needs
@@ -80,7 +84,8 @@ returns-2 : tie.Need-returns-2 Inv-loop μ-loop
 returns-2 c =
     let a = (let s : tie.Start Inv-loop μ-loop = search in s .args) in
     let turn = (let h : tie.At-loop Inv-loop μ-loop = search in h .loop) in
-    let tells : (k : ℕ) → getD (a .digits .now) (getD (a .text .now) k 0) 0 ≡ digit (getD (a .text .now) k 0) = search table-tells in
+    let fits : Fit (fInt w8) 0 (a .text .now) = search in
+    let tells = table-tells (a .digits .now) (a .text .now) (let s : tie.Start Inv-loop μ-loop = search in s .pre .table) fits in
     decoded-none (a .text .now) (a .from) (a .n) _ (a .from + 2 * turn .i + 1) (omega arith) (omega arith) (omega arith) (omega (arith, tells (a .from + 2 * turn .i + 1)))
 
 mul-byte : tie.Need-mul-byte Inv-loop μ-loop
@@ -105,7 +110,8 @@ loop-again : tie.Need-loop-again Inv-loop μ-loop
 loop-again c =
     let a = (let s : tie.Start Inv-loop μ-loop = search in s .args) in
     let turn = (let h : tie.At-loop Inv-loop μ-loop = search in h .loop) in
-    let tells : (k : ℕ) → getD (a .digits .now) (getD (a .text .now) k 0) 0 ≡ digit (getD (a .text .now) k 0) = search table-tells in
+    let fits : Fit (fInt w8) 0 (a .text .now) = search in
+    let tells = table-tells (a .digits .now) (a .text .now) (let s : tie.Start Inv-loop μ-loop = search in s .pre .table) fits in
     let high = tells (a .from + 2 * turn .i) in
     let low = tells (a .from + 2 * turn .i + 1) in
     (omega arith, decoding-more _ _ _ (turn .inv .1) _ _ (omega arith) (omega arith) (omega arith) (omega arith) (omega arith))

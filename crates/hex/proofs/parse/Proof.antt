@@ -3,11 +3,8 @@
 use Rattle.hex.proofs.Shape.{digit-here}
 use Rattle.hex.proofs.Place.{not-shaped, no-sum, no-end, is-shaped}
 use Rattle.hex.proofs.Steps.{table-tells, table-holds}
-use Rattle.hex.specs.Digits.{digit}
 use native.Mathlib.Omega.{arith}
-use lib.ListN.{getD}
-use mathlib.Core.Path.{_≡_}
-use Prim.Native.Nat.{ℕ, _+_}
+use Prim.Native.Nat.{_+_}
 use mir.Syntax.{w8}
 use borrow.Table.Referent.{fInt}
 use borrow.Rule.Slice.Know.{Fit}
@@ -40,16 +37,20 @@ shared-slice-read-high c = search needs
 cast-high : tie.Need-cast-high
 cast-high c =
     let a = (let s : tie.Start = search in s .args) in
-    let small : Fit (fInt w8) 0 (a .text .now) = search in
-    omega (arith, small (a .at + 1))
+    let fits : Fit (fInt w8) 0 (a .text .now) = search in
+    omega (arith, fits (a .at + 1))
 
 shared-slice-read-high-2 : tie.Need-shared-slice-read-high-2
-shared-slice-read-high-2 c = search table-holds
+shared-slice-read-high-2 c =
+    let a = (let s : tie.Start = search in s .args) in
+    let fits : Fit (fInt w8) 0 (a .text .now) = search in
+    table-holds (a .digits .now) (a .text .now) (let s : tie.Start = search in s .pre .table) fits _
 
 returns-3 : tie.Need-returns-3
 returns-3 c =
     let a = (let s : tie.Start = search in s .args) in
-    let tells : (k : ℕ) → getD (a .digits .now) (getD (a .text .now) k 0) 0 ≡ digit (getD (a .text .now) k 0) = search table-tells in
+    let fits : Fit (fInt w8) 0 (a .text .now) = search in
+    let tells = table-tells (a .digits .now) (a .text .now) (let s : tie.Start = search in s .pre .table) fits in
     not-shaped (a .text .now) (a .at) _ (λ shape. omega (arith, tells (a .at + 1), digit-here _ _ shape (a .at + 1) (omega arith) (omega arith)))
 
 add-low : tie.Need-add-low
@@ -61,16 +62,20 @@ shared-slice-read-low c = search needs
 cast-low : tie.Need-cast-low
 cast-low c =
     let a = (let s : tie.Start = search in s .args) in
-    let small : Fit (fInt w8) 0 (a .text .now) = search in
-    omega (arith, small (a .at + 2))
+    let fits : Fit (fInt w8) 0 (a .text .now) = search in
+    omega (arith, fits (a .at + 2))
 
 shared-slice-read-low-2 : tie.Need-shared-slice-read-low-2
-shared-slice-read-low-2 c = search table-holds
+shared-slice-read-low-2 c =
+    let a = (let s : tie.Start = search in s .args) in
+    let fits : Fit (fInt w8) 0 (a .text .now) = search in
+    table-holds (a .digits .now) (a .text .now) (let s : tie.Start = search in s .pre .table) fits _
 
 returns-4 : tie.Need-returns-4
 returns-4 c =
     let a = (let s : tie.Start = search in s .args) in
-    let tells : (k : ℕ) → getD (a .digits .now) (getD (a .text .now) k 0) 0 ≡ digit (getD (a .text .now) k 0) = search table-tells in
+    let fits : Fit (fInt w8) 0 (a .text .now) = search in
+    let tells = table-tells (a .digits .now) (a .text .now) (let s : tie.Start = search in s .pre .table) fits in
     not-shaped (a .text .now) (a .at) _ (λ shape. omega (arith, tells (a .at + 2), digit-here _ _ shape (a .at + 2) (omega arith) (omega arith)))
 
 mul-n : tie.Need-mul-n
@@ -97,14 +102,15 @@ add-end-2 c = search needs
 returns-5 : tie.Need-returns-5
 returns-5 c =
     let a = (let s : tie.Start = search in s .args) in
-    let tells : (k : ℕ) → getD (a .digits .now) (getD (a .text .now) k 0) 0 ≡ digit (getD (a .text .now) k 0) = search table-tells in
+    let fits : Fit (fInt w8) 0 (a .text .now) = search in
+    let tells = table-tells (a .digits .now) (a .text .now) (let s : tie.Start = search in s .pre .table) fits in
     not-shaped (a .text .now) (a .at) _ (λ shape. omega (arith, tells (a .at + 1), tells (a .at + 2), shape .reaches))
 
 add-decode : tie.Need-add-decode
 add-decode c = search needs
 
 decode-requires : tie.Need-decode-requires
-decode-requires c κs = record { table = search; reaches = omega arith; room = omega arith }
+decode-requires c κs = record { table = (let s : tie.Start = search in s .pre .table); reaches = omega arith; room = omega arith }
 
 same-length : tie.Need-same-length
 same-length c = search needs
@@ -112,9 +118,10 @@ same-length c = search needs
 returns-6 : tie.Need-returns-6
 returns-6 c =
     let a = (let s : tie.Start = search in s .args) in
-    let tells : (k : ℕ) → getD (a .digits .now) (getD (a .text .now) k 0) 0 ≡ digit (getD (a .text .now) k 0) = search table-tells in
+    let fits : Fit (fInt w8) 0 (a .text .now) = search in
+    let tells = table-tells (a .digits .now) (a .text .now) (let s : tie.Start = search in s .pre .table) fits in
     let decoded = (let d : tie.After-decode = search in d .decode .ensures) in
-    not-shaped (a .text .now) (a .at) _ (no-sum decoded (omega (arith, tells (a .at + 1), tells (a .at + 2))) (omega arith) (omega arith))
+    not-shaped (a .text .now) (a .at) _ (no-sum decoded (omega (arith, tells (a .at + 1), tells (a .at + 2))))
 
 past-end-requires : tie.Need-past-end-requires
 past-end-requires c κs = search needs
@@ -125,10 +132,11 @@ same-length-2 c = search needs
 returns-7 : tie.Need-returns-7
 returns-7 c =
     let a = (let s : tie.Start = search in s .args) in
-    let tells : (k : ℕ) → getD (a .digits .now) (getD (a .text .now) k 0) 0 ≡ digit (getD (a .text .now) k 0) = search table-tells in
+    let fits : Fit (fInt w8) 0 (a .text .now) = search in
+    let tells = table-tells (a .digits .now) (a .text .now) (let s : tie.Start = search in s .pre .table) fits in
     let decoded = (let d : tie.After-decode = search in d .decode .ensures) in
     let ended = (let e : tie.After-past-end = search in e .past-end .ensures) in
-    not-shaped (a .text .now) (a .at) _ (no-end decoded (omega (arith, tells (a .at + 1), tells (a .at + 2))) (omega arith) _ _ ended (omega arith) (omega arith))
+    not-shaped (a .text .now) (a .at) _ (no-end decoded ended (omega (arith, tells (a .at + 1), tells (a .at + 2))))
 
 cast-sum : tie.Need-cast-sum
 cast-sum c = search needs
@@ -139,10 +147,11 @@ same-length-3 c = search needs
 returns-8 : tie.Need-returns-8
 returns-8 c =
     let a = (let s : tie.Start = search in s .args) in
-    let tells : (k : ℕ) → getD (a .digits .now) (getD (a .text .now) k 0) 0 ≡ digit (getD (a .text .now) k 0) = search table-tells in
+    let fits : Fit (fInt w8) 0 (a .text .now) = search in
+    let tells = table-tells (a .digits .now) (a .text .now) (let s : tie.Start = search in s .pre .table) fits in
     let decoded = (let d : tie.After-decode = search in d .decode .ensures) in
     let ended = (let e : tie.After-past-end = search in e .past-end .ensures) in
-    is-shaped decoded (omega (arith, tells (a .at + 1), tells (a .at + 2))) (omega arith) _ _ ended (omega arith) (omega arith) (omega arith) (omega arith) (omega arith)
+    is-shaped decoded ended (omega (arith, tells (a .at + 1), tells (a .at + 2)))
 
 pub parse-spec : {M : Type 1} → statement M
 parse-spec =
