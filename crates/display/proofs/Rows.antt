@@ -1,6 +1,7 @@
 -- A row above the line shows nothing on it: the words up to its return may be passed over. And the loop that looks for the return.
 -- Assumes nothing.
 use mathlib.Core.Path.{_≡_, refl, sym, ap, _∙_}
+use mathlib.Core.Bool.{Bool}
 use mathlib.Core.List.{List, [], _∷_, _++_}
 use Prim.Native.Nat.{ℕ, _+_, _*_, _<_, _≤_}
 use native.Mathlib.Numerals.{add-one}
@@ -13,6 +14,7 @@ use Rattle.laws.proofs.Holders.{last-skip}
 use Rattle.laws.proofs.Placing.{cell-above}
 use Rattle.units.specs.declared.Dots.{Dots}
 use Rattle.units.specs.declared.Lines.{Lines}
+use Rattle.judging.specs.Judging.{mostColour}
 use Rattle.display.specs.declared.View.{View}
 use Rattle.display.specs.declared.Kind.{Kind}
 use Rattle.display.specs.declared.Kind.the-variants.{Character, Space, Return, End}
@@ -21,7 +23,8 @@ use Rattle.display.specs.declared.RowEnd.the-variants.{Over, Next}
 use Rattle.display.specs.Words.{kindOf}
 use Rattle.display.specs.Cells.{character, space, kindCell, belowRow, rowPen, afterWord, goesOn, cellsFrom}
 use Rattle.display.specs.Picture.{has, cellDot}
-use Rattle.display.specs.Steps.{painted, later, endAt, rowEnd}
+use Rattle.display.specs.Steps.{painted, later, endAt, rowEnd, NextSound}
+use Rattle.display.proofs.Sound.{sound, own-sound, return-sound}
 
 module _ (font : List ℕ) (v : View) (left : Dots) (y : Lines) (size k old : ℕ) where
   -- dot k as the words after the row's end make it
@@ -65,7 +68,7 @@ abbrev pub laterBy : ℕ → RowEnd → RowEnd
 laterBy i Over = Over
 laterBy i (Next read next spacing back) = Next (i + read) next spacing back
 
-pub later-none : (r : RowEnd) → laterBy 0 r ≡ r
+later-none : (r : RowEnd) → laterBy 0 r ≡ r
 later-none Over = refl
 later-none (Next read next spacing back) = ap (λ (n : ℕ). Next n next spacing back) (omega arith)
 
@@ -75,15 +78,49 @@ later-one i (Next read next spacing back) = ap (λ (n : ℕ). Next n next spacin
 
 module _ (words : List ℕ) (i back : ℕ) where
   -- no word is left
-  pub end-over : length words ≤ i → laterBy i (rowEnd (drop i words) back) ≡ Over
+  end-over : length words ≤ i → laterBy i (rowEnd (drop i words) back) ≡ Over
   unfolding rowEnd
   end-over le = rw (drop-of-length-le words le)
 
   -- the next word, by its kind
-  pub end-step : (kd : Kind) → i < length words → kindOf (getD words i 0) ≡ kd → laterBy i (rowEnd (drop i words) back) ≡ laterBy i (endAt kd back (λ b. rowEnd (drop (i + 1) words) b))
+  end-step : (kd : Kind) → i < length words → kindOf (getD words i 0) ≡ kd → laterBy i (rowEnd (drop i words) back) ≡ laterBy i (endAt kd back (λ b. rowEnd (drop (i + 1) words) b))
   unfolding rowEnd
   end-step kd lt e = rw (drop-cons words i 0 lt) (simp (e, add-one))
 
-  pub end-goes : (kd : Kind) (b : ℕ) → i < length words → kindOf (getD words i 0) ≡ kd → endAt kd back (λ b. rowEnd (drop (i + 1) words) b) ≡ later (rowEnd (drop (i + 1) words) b)
+  end-goes : (kd : Kind) (b : ℕ) → i < length words → kindOf (getD words i 0) ≡ kd → endAt kd back (λ b. rowEnd (drop (i + 1) words) b) ≡ later (rowEnd (drop (i + 1) words) b)
       → laterBy (i + 1) (rowEnd (drop (i + 1) words) b) ≡ laterBy i (rowEnd (drop i words) back)
   end-goes kd b lt e f = sym (later-one i (rowEnd (drop (i + 1) words) b)) ∙ ap (λ (r : RowEnd). laterBy i r) (sym f) ∙ sym (end-step kd lt e)
+
+-- i words of the row were seen, and the background is `back` by then: the row ends where the words that are left end it
+pub record Seen (words : List ℕ) (background back i : ℕ) : Type 0 where
+  pub within : i ≤ length words
+  pub colour : back ≤ mostColour
+  pub ends : laterBy i (rowEnd (drop i words) back) ≡ rowEnd words background
+
+pub seen-none : (words : List ℕ) (background : ℕ) → background ≤ mostColour → Seen words background background 0
+seen-none words background le = record { within = omega arith; colour = le; ends = later-none (rowEnd words background) }
+
+-- what the next word tells, by its kind
+module _ (words : List ℕ) (background back i : ℕ) (seen : Seen words background back i) where
+  pub seen-over : length words ≤ i → Over ≡ rowEnd words background
+  seen-over le = sym (end-over words i back le) ∙ seen .ends
+
+  module _ (kd : Kind) (lt : i < length words) (is : kd ≡ kindOf (getD words i 0)) where
+    pub seen-end : kd ≡ End → Over ≡ rowEnd words background
+    seen-end told = sym (end-step words i back End lt (sym is ∙ told)) ∙ seen .ends
+
+    pub seen-return : (size : ℕ) (spacing : Lines) → kd ≡ Return size spacing
+        → (Next (i + 1) size spacing back ≡ rowEnd words background) × NextSound (length words) (i + 1) size spacing back
+    seen-return size spacing told =
+        let h = return-sound kd size spacing told (sound (getD words i 0) kd is) in (
+          sym (end-step words i back (Return size spacing) lt (sym is ∙ told)) ∙ seen .ends,
+          record { some = omega arith; there = omega arith; high = h .0; size = h .1 .0; spacing = h .1 .1; colour = seen .colour },
+        )
+
+    pub seen-space : (own : ℕ) → kd ≡ Space own → Seen words background own (i + 1)
+    seen-space own told =
+        record { within = omega arith; colour = own-sound kd own told (sound (getD words i 0) kd is); ends = end-goes words i back (Space own) own lt (sym is ∙ told) refl ∙ seen .ends }
+
+    pub seen-character : (colour code : ℕ) (blink : Bool) → kd ≡ Character colour code blink → Seen words background back (i + 1)
+    seen-character colour code blink told =
+        record { within = omega arith; colour = seen .colour; ends = end-goes words i back (Character colour code blink) back lt (sym is ∙ told) refl ∙ seen .ends }

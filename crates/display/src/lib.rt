@@ -140,7 +140,8 @@ fn row_step(
     if line < y.0 {
         return;
     }
-    if line < y.0 + font::CELL_ROWS * size {
+    let end = y.0 + font::CELL_ROWS * size;
+    if line < end {
         let left = view.left;
         cell_step(
             words,

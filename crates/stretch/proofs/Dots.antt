@@ -21,7 +21,7 @@ patch-more from i shows out₀ out e lt =
     (λ a. patched-here from shows i a) (λ k a ne. patched-other from shows i k a ne)
 
 -- the first dot
-pub patch-first : (from : ℕ) (shows : ℕ → ℕ) (out₀ : List ℕ) → from < length out₀ → set out₀ from (shows 0) ≡ overlay (patched from 1 shows) out₀
+patch-first : (from : ℕ) (shows : ℕ → ℕ) (out₀ : List ℕ) → from < length out₀ → set out₀ from (shows 0) ≡ overlay (patched from 1 shows) out₀
 patch-first from shows out₀ lt =
     ap (λ (n : ℕ). set out₀ n (shows 0)) (omega arith)
     ∙ patch-more from 0 shows out₀ out₀ (overlay-leaves (patched from 0 shows) out₀ (λ k a l. patched-none from shows k a)) (omega arith)
