@@ -22,7 +22,7 @@ loop-holds c =
     record { passed = rw (pre .empty) (passed-none _); room = refl; whole = refl }
 
 cast-place : tie.Need-cast-place Inv-loop μ-loop
-cast-place c = search needs
+cast-place c = omega arith
 
 parse-requires : tie.Need-parse-requires Inv-loop μ-loop
 parse-requires c κs =
@@ -73,7 +73,7 @@ returns-2 c =
     refused-by (met-sum met (omega arith)) (omega arith)
 
 slice-read-n : tie.Need-slice-read-n Inv-loop μ-loop
-slice-read-n c = search needs
+slice-read-n c = omega arith
 
 cast-n : tie.Need-cast-n Inv-loop μ-loop
 cast-n c =
@@ -82,7 +82,7 @@ cast-n c =
     omega (arith, small 0)
 
 slice-read-address : tie.Need-slice-read-address Inv-loop μ-loop
-slice-read-address c = search needs
+slice-read-address c = omega arith
 
 cast-address : tie.Need-cast-address Inv-loop μ-loop
 cast-address c =
@@ -97,7 +97,7 @@ mul-address c =
     omega (arith, small 1)
 
 slice-read-address-2 : tie.Need-slice-read-address-2 Inv-loop μ-loop
-slice-read-address-2 c = search needs
+slice-read-address-2 c = omega arith
 
 cast-address-2 : tie.Need-cast-address-2 Inv-loop μ-loop
 cast-address-2 c =
@@ -112,7 +112,7 @@ add-address c =
     omega (arith, small 1, small 2)
 
 slice-read-kind : tie.Need-slice-read-kind Inv-loop μ-loop
-slice-read-kind c = search needs
+slice-read-kind c = omega arith
 
 same-length-5 : tie.Need-same-length-5 Inv-loop μ-loop
 same-length-5 c = omega arith
@@ -218,10 +218,10 @@ store-requires c κs =
     record { held = omega (arith, small 0); fits = omega arith; whole = omega (arith, ap length (pre .empty), unfilled-length) }
 
 cast-count : tie.Need-cast-count Inv-loop μ-loop
-cast-count c = search needs
+cast-count c = omega arith
 
 add-count : tie.Need-add-count Inv-loop μ-loop
-add-count c = search needs
+add-count c = omega arith
 
 loop-less : tie.Need-loop-less Inv-loop μ-loop
 loop-less c =
@@ -259,7 +259,7 @@ returns-9 c =
     refused-by (said-twice met stored (omega arith) (search)) (omega arith)
 
 cast-end : tie.Need-cast-end Inv-loop μ-loop
-cast-end c = search needs
+cast-end c = omega arith
 
 same-length-19 : tie.Need-same-length-19 Inv-loop μ-loop
 same-length-19 c = omega arith
