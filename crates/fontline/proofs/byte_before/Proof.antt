@@ -2,15 +2,14 @@
 -- Assumes nothing.
 use Rattle.fontline.proofs.Backed.{line-before}
 use native.Mathlib.Omega.{arith}
-use borrow.Author.Needs.{needs}
 use Rattle.fontline.proofs.byte_before.Statement.{statement}
 use Rattle.fontline.proofs.byte_before.Tie as tie
 
 sub-start : tie.Need-sub-start
-sub-start c = search needs
+sub-start c = omega arith
 
 array-write-bytes : tie.Need-array-write-bytes
-array-write-bytes c = search needs
+array-write-bytes c = omega arith
 
 returns : tie.Need-returns
 returns c =

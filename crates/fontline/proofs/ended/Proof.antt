@@ -1,15 +1,15 @@
 -- `fontline::ended` meets its contract: the byte stands at the back of the zeros.
 -- Assumes nothing.
 use Rattle.fontline.proofs.Backed.{line-end}
-use borrow.Author.Needs.{needs}
+use native.Mathlib.Omega.{arith}
 use Rattle.fontline.proofs.ended.Statement.{statement}
 use Rattle.fontline.proofs.ended.Tie as tie
 
 sub-start : tie.Need-sub-start
-sub-start c = search needs
+sub-start c = omega arith
 
 array-write-bytes : tie.Need-array-write-bytes
-array-write-bytes c = search needs
+array-write-bytes c = omega arith
 
 returns : tie.Need-returns
 returns c = line-end

@@ -1,6 +1,5 @@
 -- `fontline::number_before` meets its contract: what is left of the number, before what is written, spells the whole; the measure is what is left of it.
 -- Assumes nothing.
-use borrow.Author.Needs.{needs}
 use Rattle.fontline.proofs.Backed.{Numbered, numbered-none, numbered-few, numbered-more, numbered-all}
 use native.Mathlib.Omega.{arith}
 use Rattle.fontline.proofs.number_before.Statement.{statement}
@@ -16,10 +15,10 @@ loop-holds : tie.Need-loop-holds Inv-loop μ-loop
 loop-holds c = numbered-none _ _ (omega arith)
 
 cast-byte-before : tie.Need-cast-byte-before Inv-loop μ-loop
-cast-byte-before c = search needs
+cast-byte-before c = omega arith
 
 add-byte-before : tie.Need-add-byte-before Inv-loop μ-loop
-add-byte-before c = search needs
+add-byte-before c = omega arith
 
 byte-before-requires : tie.Need-byte-before-requires Inv-loop μ-loop
 byte-before-requires c κs =
@@ -27,7 +26,7 @@ byte-before-requires c κs =
     omega (arith, numbered-few (turn .inv) (omega arith))
 
 loop-less : tie.Need-loop-less Inv-loop μ-loop
-loop-less c = search needs
+loop-less c = omega arith
 
 loop-again : tie.Need-loop-again Inv-loop μ-loop
 loop-again c =
@@ -36,10 +35,10 @@ loop-again c =
     numbered-more (turn .inv) done (omega arith) (omega arith)
 
 cast-byte-before-2 : tie.Need-cast-byte-before-2 Inv-loop μ-loop
-cast-byte-before-2 c = search needs
+cast-byte-before-2 c = omega arith
 
 add-byte-before-2 : tie.Need-add-byte-before-2 Inv-loop μ-loop
-add-byte-before-2 c = search needs
+add-byte-before-2 c = omega arith
 
 byte-before-requires-2 : tie.Need-byte-before-requires-2 Inv-loop μ-loop
 byte-before-requires-2 c κs = omega arith

@@ -1,6 +1,5 @@
 -- `fontline::words_before` meets its contract: the words from place i on stand before the line; the measure is i.
 -- Assumes nothing.
-use borrow.Author.Needs.{needs}
 use Rattle.fontline.proofs.Backed.{Worded, worded-none, worded-more, worded-all}
 use native.Mathlib.Omega.{arith}
 use Rattle.fontline.proofs.words_before.Statement.{statement}
@@ -16,16 +15,16 @@ loop-holds : tie.Need-loop-holds Inv-loop μ-loop
 loop-holds c = worded-none _ _
 
 sub-i : tie.Need-sub-i Inv-loop μ-loop
-sub-i c = search needs
+sub-i c = omega arith
 
 shared-slice-read-byte-before : tie.Need-shared-slice-read-byte-before Inv-loop μ-loop
-shared-slice-read-byte-before c = search needs
+shared-slice-read-byte-before c = omega arith
 
 byte-before-requires : tie.Need-byte-before-requires Inv-loop μ-loop
 byte-before-requires c κs = omega arith
 
 loop-less : tie.Need-loop-less Inv-loop μ-loop
-loop-less c = search needs
+loop-less c = omega arith
 
 loop-again : tie.Need-loop-again Inv-loop μ-loop
 loop-again c =

@@ -22,7 +22,7 @@ loop-holds c =
     record { passed = rw (pre .empty) (passed-none _); room = refl; whole = refl }
 
 cast-place : tie.Need-cast-place Inv-loop μ-loop
-cast-place c = search needs
+cast-place c = omega arith
 
 parse-requires : tie.Need-parse-requires Inv-loop μ-loop
 parse-requires c κs =
@@ -36,10 +36,10 @@ enum-told : tie.Need-enum-told Inv-loop μ-loop
 enum-told c = search needs
 
 same-length : tie.Need-same-length Inv-loop μ-loop
-same-length c = search needs
+same-length c = omega arith
 
 same-length-2 : tie.Need-same-length-2 Inv-loop μ-loop
-same-length-2 c = search needs
+same-length-2 c = omega arith
 
 returns : tie.Need-returns Inv-loop μ-loop
 returns c =
@@ -58,10 +58,10 @@ cast-after c =
     omega (arith, met-next met .0)
 
 same-length-3 : tie.Need-same-length-3 Inv-loop μ-loop
-same-length-3 c = search needs
+same-length-3 c = omega arith
 
 same-length-4 : tie.Need-same-length-4 Inv-loop μ-loop
-same-length-4 c = search needs
+same-length-4 c = omega arith
 
 returns-2 : tie.Need-returns-2 Inv-loop μ-loop
 returns-2 c =
@@ -73,7 +73,7 @@ returns-2 c =
     refused-by (met-sum met (omega arith)) (omega arith)
 
 slice-read-n : tie.Need-slice-read-n Inv-loop μ-loop
-slice-read-n c = search needs
+slice-read-n c = omega arith
 
 cast-n : tie.Need-cast-n Inv-loop μ-loop
 cast-n c =
@@ -82,7 +82,7 @@ cast-n c =
     omega (arith, small 0)
 
 slice-read-address : tie.Need-slice-read-address Inv-loop μ-loop
-slice-read-address c = search needs
+slice-read-address c = omega arith
 
 cast-address : tie.Need-cast-address Inv-loop μ-loop
 cast-address c =
@@ -97,7 +97,7 @@ mul-address c =
     omega (arith, small 1)
 
 slice-read-address-2 : tie.Need-slice-read-address-2 Inv-loop μ-loop
-slice-read-address-2 c = search needs
+slice-read-address-2 c = omega arith
 
 cast-address-2 : tie.Need-cast-address-2 Inv-loop μ-loop
 cast-address-2 c =
@@ -112,13 +112,13 @@ add-address c =
     omega (arith, small 1, small 2)
 
 slice-read-kind : tie.Need-slice-read-kind Inv-loop μ-loop
-slice-read-kind c = search needs
+slice-read-kind c = omega arith
 
 same-length-5 : tie.Need-same-length-5 Inv-loop μ-loop
-same-length-5 c = search needs
+same-length-5 c = omega arith
 
 same-length-6 : tie.Need-same-length-6 Inv-loop μ-loop
-same-length-6 c = search needs
+same-length-6 c = omega arith
 
 returns-3 : tie.Need-returns-3 Inv-loop μ-loop
 returns-3 c =
@@ -130,10 +130,10 @@ returns-3 c =
     refused-by (said-long-end met (omega arith)) (omega arith)
 
 same-length-7 : tie.Need-same-length-7 Inv-loop μ-loop
-same-length-7 c = search needs
+same-length-7 c = omega arith
 
 same-length-8 : tie.Need-same-length-8 Inv-loop μ-loop
-same-length-8 c = search needs
+same-length-8 c = omega arith
 
 returns-4 : tie.Need-returns-4 Inv-loop μ-loop
 returns-4 c =
@@ -145,10 +145,10 @@ returns-4 c =
     refused-by (said-far-end met (omega arith)) (omega arith)
 
 same-length-9 : tie.Need-same-length-9 Inv-loop μ-loop
-same-length-9 c = search needs
+same-length-9 c = omega arith
 
 same-length-10 : tie.Need-same-length-10 Inv-loop μ-loop
-same-length-10 c = search needs
+same-length-10 c = omega arith
 
 returns-5 : tie.Need-returns-5 Inv-loop μ-loop
 returns-5 c =
@@ -160,10 +160,10 @@ returns-5 c =
     refused-by (said-more met (omega arith)) (omega arith)
 
 same-length-11 : tie.Need-same-length-11 Inv-loop μ-loop
-same-length-11 c = search needs
+same-length-11 c = omega arith
 
 same-length-12 : tie.Need-same-length-12 Inv-loop μ-loop
-same-length-12 c = search needs
+same-length-12 c = omega arith
 
 returns-6 : tie.Need-returns-6 Inv-loop μ-loop
 returns-6 c =
@@ -175,10 +175,10 @@ returns-6 c =
     said-done met (omega arith) (omega arith)
 
 same-length-13 : tie.Need-same-length-13 Inv-loop μ-loop
-same-length-13 c = search needs
+same-length-13 c = omega arith
 
 same-length-14 : tie.Need-same-length-14 Inv-loop μ-loop
-same-length-14 c = search needs
+same-length-14 c = omega arith
 
 returns-7 : tie.Need-returns-7 Inv-loop μ-loop
 returns-7 c =
@@ -196,10 +196,10 @@ add-if7 c =
     omega (arith, small 0, small 1, small 2)
 
 same-length-15 : tie.Need-same-length-15 Inv-loop μ-loop
-same-length-15 c = search needs
+same-length-15 c = omega arith
 
 same-length-16 : tie.Need-same-length-16 Inv-loop μ-loop
-same-length-16 c = search needs
+same-length-16 c = omega arith
 
 returns-8 : tie.Need-returns-8 Inv-loop μ-loop
 returns-8 c =
@@ -218,10 +218,10 @@ store-requires c κs =
     record { held = omega (arith, small 0); fits = omega arith; whole = omega (arith, ap length (pre .empty), unfilled-length) }
 
 cast-count : tie.Need-cast-count Inv-loop μ-loop
-cast-count c = search needs
+cast-count c = omega arith
 
 add-count : tie.Need-add-count Inv-loop μ-loop
-add-count c = search needs
+add-count c = omega arith
 
 loop-less : tie.Need-loop-less Inv-loop μ-loop
 loop-less c =
@@ -243,10 +243,10 @@ loop-again c =
     record { passed = said-passed met stored (omega arith) (search); room = omega arith; whole = omega arith }
 
 same-length-17 : tie.Need-same-length-17 Inv-loop μ-loop
-same-length-17 c = search needs
+same-length-17 c = omega arith
 
 same-length-18 : tie.Need-same-length-18 Inv-loop μ-loop
-same-length-18 c = search needs
+same-length-18 c = omega arith
 
 returns-9 : tie.Need-returns-9 Inv-loop μ-loop
 returns-9 c =
@@ -259,13 +259,13 @@ returns-9 c =
     refused-by (said-twice met stored (omega arith) (search)) (omega arith)
 
 cast-end : tie.Need-cast-end Inv-loop μ-loop
-cast-end c = search needs
+cast-end c = omega arith
 
 same-length-19 : tie.Need-same-length-19 Inv-loop μ-loop
-same-length-19 c = search needs
+same-length-19 c = omega arith
 
 same-length-20 : tie.Need-same-length-20 Inv-loop μ-loop
-same-length-20 c = search needs
+same-length-20 c = omega arith
 
 returns-10 : tie.Need-returns-10 Inv-loop μ-loop
 returns-10 c =

@@ -20,13 +20,13 @@ loop-holds : tie.Need-loop-holds Inv-loop μ-loop
 loop-holds c = (omega arith, decoding-none _ _ _)
 
 mul-high : tie.Need-mul-high Inv-loop μ-loop
-mul-high c = search needs
+mul-high c = omega arith
 
 add-high : tie.Need-add-high Inv-loop μ-loop
-add-high c = search needs
+add-high c = omega arith
 
 shared-slice-read-high : tie.Need-shared-slice-read-high Inv-loop μ-loop
-shared-slice-read-high c = search needs
+shared-slice-read-high c = omega arith
 
 cast-high : tie.Need-cast-high Inv-loop μ-loop
 cast-high c =
@@ -42,7 +42,7 @@ shared-slice-read-high-2 c =
     table-holds (a .digits .now) (a .text .now) (let s : tie.Start Inv-loop μ-loop = search in s .pre .table) fits _
 
 same-length : tie.Need-same-length Inv-loop μ-loop
-same-length c = search needs
+same-length c = omega arith
 
 returns : tie.Need-returns Inv-loop μ-loop
 returns c =
@@ -53,16 +53,16 @@ returns c =
     decoded-none (a .text .now) (a .from) (a .n) _ (a .from + 2 * turn .i) (omega arith) (omega arith) (omega arith) (omega (arith, tells (a .from + 2 * turn .i)))
 
 mul-low : tie.Need-mul-low Inv-loop μ-loop
-mul-low c = search needs
+mul-low c = omega arith
 
 add-low : tie.Need-add-low Inv-loop μ-loop
-add-low c = search needs
+add-low c = omega arith
 
 add-low-2 : tie.Need-add-low-2 Inv-loop μ-loop
-add-low-2 c = search needs
+add-low-2 c = omega arith
 
 shared-slice-read-low : tie.Need-shared-slice-read-low Inv-loop μ-loop
-shared-slice-read-low c = search needs
+shared-slice-read-low c = omega arith
 
 cast-low : tie.Need-cast-low Inv-loop μ-loop
 cast-low c =
@@ -78,7 +78,7 @@ shared-slice-read-low-2 c =
     table-holds (a .digits .now) (a .text .now) (let s : tie.Start Inv-loop μ-loop = search in s .pre .table) fits _
 
 same-length-2 : tie.Need-same-length-2 Inv-loop μ-loop
-same-length-2 c = search needs
+same-length-2 c = omega arith
 
 returns-2 : tie.Need-returns-2 Inv-loop μ-loop
 returns-2 c =
@@ -89,22 +89,22 @@ returns-2 c =
     decoded-none (a .text .now) (a .from) (a .n) _ (a .from + 2 * turn .i + 1) (omega arith) (omega arith) (omega arith) (omega (arith, tells (a .from + 2 * turn .i + 1)))
 
 mul-byte : tie.Need-mul-byte Inv-loop μ-loop
-mul-byte c = search needs
+mul-byte c = omega arith
 
 add-byte : tie.Need-add-byte Inv-loop μ-loop
-add-byte c = search needs
+add-byte c = omega arith
 
 wrapping-add-u8-requires : tie.Need-wrapping-add-u8-requires Inv-loop μ-loop
 wrapping-add-u8-requires c κs = search needs
 
 slice-write-bytes : tie.Need-slice-write-bytes Inv-loop μ-loop
-slice-write-bytes c = search needs
+slice-write-bytes c = omega arith
 
 add-i : tie.Need-add-i Inv-loop μ-loop
-add-i c = search needs
+add-i c = omega arith
 
 loop-less : tie.Need-loop-less Inv-loop μ-loop
-loop-less c = search needs
+loop-less c = omega arith
 
 loop-again : tie.Need-loop-again Inv-loop μ-loop
 loop-again c =
@@ -117,10 +117,10 @@ loop-again c =
     (omega arith, decoding-more _ _ _ (turn .inv .1) _ _ (omega arith) (omega arith) (omega arith) (omega arith) (omega arith))
 
 cast-result : tie.Need-cast-result Inv-loop μ-loop
-cast-result c = search needs
+cast-result c = omega arith
 
 same-length-3 : tie.Need-same-length-3 Inv-loop μ-loop
-same-length-3 c = search needs
+same-length-3 c = omega arith
 
 returns-3 : tie.Need-returns-3 Inv-loop μ-loop
 returns-3 c =

@@ -13,7 +13,7 @@ use Rattle.hex.proofs.parse.Statement.{statement}
 use Rattle.hex.proofs.parse.Tie as tie
 
 sub-if1 : tie.Need-sub-if1
-sub-if1 c = search needs
+sub-if1 c = omega arith
 
 returns : tie.Need-returns
 returns c =
@@ -21,7 +21,7 @@ returns c =
     not-shaped (a .text .now) (a .at) _ (λ shape. omega arith)
 
 shared-slice-read-if2 : tie.Need-shared-slice-read-if2
-shared-slice-read-if2 c = search needs
+shared-slice-read-if2 c = omega arith
 
 returns-2 : tie.Need-returns-2
 returns-2 c =
@@ -29,10 +29,10 @@ returns-2 c =
     not-shaped (a .text .now) (a .at) _ (λ shape. omega arith)
 
 add-high : tie.Need-add-high
-add-high c = search needs
+add-high c = omega arith
 
 shared-slice-read-high : tie.Need-shared-slice-read-high
-shared-slice-read-high c = search needs
+shared-slice-read-high c = omega arith
 
 cast-high : tie.Need-cast-high
 cast-high c =
@@ -54,10 +54,10 @@ returns-3 c =
     not-shaped (a .text .now) (a .at) _ (λ shape. omega (arith, tells (a .at + 1), digit-here _ _ shape (a .at + 1) (omega arith) (omega arith)))
 
 add-low : tie.Need-add-low
-add-low c = search needs
+add-low c = omega arith
 
 shared-slice-read-low : tie.Need-shared-slice-read-low
-shared-slice-read-low c = search needs
+shared-slice-read-low c = omega arith
 
 cast-low : tie.Need-cast-low
 cast-low c =
@@ -79,25 +79,25 @@ returns-4 c =
     not-shaped (a .text .now) (a .at) _ (λ shape. omega (arith, tells (a .at + 2), digit-here _ _ shape (a .at + 2) (omega arith) (omega arith)))
 
 mul-n : tie.Need-mul-n
-mul-n c = search needs
+mul-n c = omega arith
 
 add-n : tie.Need-add-n
-add-n c = search needs
+add-n c = omega arith
 
 cast-n : tie.Need-cast-n
-cast-n c = search needs
+cast-n c = omega arith
 
 add-n-2 : tie.Need-add-n-2
-add-n-2 c = search needs
+add-n-2 c = omega arith
 
 add-end : tie.Need-add-end
-add-end c = search needs
+add-end c = omega arith
 
 mul-end : tie.Need-mul-end
-mul-end c = search needs
+mul-end c = omega arith
 
 add-end-2 : tie.Need-add-end-2
-add-end-2 c = search needs
+add-end-2 c = omega arith
 
 returns-5 : tie.Need-returns-5
 returns-5 c =
@@ -107,13 +107,13 @@ returns-5 c =
     not-shaped (a .text .now) (a .at) _ (λ shape. omega (arith, tells (a .at + 1), tells (a .at + 2), shape .reaches))
 
 add-decode : tie.Need-add-decode
-add-decode c = search needs
+add-decode c = omega arith
 
 decode-requires : tie.Need-decode-requires
 decode-requires c κs = record { table = (let s : tie.Start = search in s .pre .table); reaches = omega arith; room = omega arith }
 
 same-length : tie.Need-same-length
-same-length c = search needs
+same-length c = omega arith
 
 returns-6 : tie.Need-returns-6
 returns-6 c =
@@ -127,7 +127,7 @@ past-end-requires : tie.Need-past-end-requires
 past-end-requires c κs = search needs
 
 same-length-2 : tie.Need-same-length-2
-same-length-2 c = search needs
+same-length-2 c = omega arith
 
 returns-7 : tie.Need-returns-7
 returns-7 c =
@@ -139,10 +139,10 @@ returns-7 c =
     not-shaped (a .text .now) (a .at) _ (no-end decoded ended (omega (arith, tells (a .at + 1), tells (a .at + 2))))
 
 cast-sum : tie.Need-cast-sum
-cast-sum c = search needs
+cast-sum c = omega arith
 
 same-length-3 : tie.Need-same-length-3
-same-length-3 c = search needs
+same-length-3 c = omega arith
 
 returns-8 : tie.Need-returns-8
 returns-8 c =

@@ -9,7 +9,6 @@ use lib.Dec.{eqb}
 use lib.ListN.{getD, List·getD-eq-default}
 use mathlib.Core.Bool.{true, false}
 use mathlib.Core.Path.{_≡_, sym, _∙_}
-use borrow.Author.Needs.{needs}
 use Rattle.hex.proofs.past_end.Statement.{statement}
 use Rattle.hex.proofs.past_end.Tie as tie
 
@@ -19,10 +18,10 @@ returns c =
     sym (past-over (a .text .now) (a .place) (omega arith))
 
 shared-slice-read-if2 : tie.Need-shared-slice-read-if2
-shared-slice-read-if2 c = search needs
+shared-slice-read-if2 c = omega arith
 
 add-result : tie.Need-add-result
-add-result c = search needs
+add-result c = omega arith
 
 returns-2 : tie.Need-returns-2
 returns-2 c =
@@ -31,7 +30,7 @@ returns-2 c =
     sym (past-here (a .text .now) (a .place) (omega arith) ∙ simp lf)
 
 shared-slice-read-if3 : tie.Need-shared-slice-read-if3
-shared-slice-read-if3 c = search needs
+shared-slice-read-if3 c = omega arith
 
 returns-3 : tie.Need-returns-3
 returns-3 c =
@@ -41,7 +40,7 @@ returns-3 c =
     sym (past-here (a .text .now) (a .place) (omega arith) ∙ simp (lf, cr))
 
 add-if4 : tie.Need-add-if4
-add-if4 c = search needs
+add-if4 c = omega arith
 
 returns-4 : tie.Need-returns-4
 returns-4 c =
@@ -52,13 +51,13 @@ returns-4 c =
     sym (past-here (a .text .now) (a .place) (omega arith) ∙ simp (lf, cr, over))
 
 add-if5 : tie.Need-add-if5
-add-if5 c = search needs
+add-if5 c = omega arith
 
 shared-slice-read-if5 : tie.Need-shared-slice-read-if5
-shared-slice-read-if5 c = search needs
+shared-slice-read-if5 c = omega arith
 
 add-result-2 : tie.Need-add-result-2
-add-result-2 c = search needs
+add-result-2 c = omega arith
 
 returns-5 : tie.Need-returns-5
 returns-5 c =

@@ -53,7 +53,7 @@ copy-out-requires : tie.Need-copy-out-requires
 copy-out-requires c κs = search needs
 
 same-length : tie.Need-same-length
-same-length c = search needs
+same-length c = omega arith
 
 returns-3 : tie.Need-returns-3
 returns-3 c =

@@ -3,7 +3,6 @@
 use mir.Syntax.{w8}
 use borrow.Table.Referent.{fInt}
 use borrow.Rule.Slice.Know.{Fit}
-use borrow.Author.Needs.{needs}
 use Rattle.hex.proofs.Steps.{Storing, storing-none, storing-more, storing-all}
 use Rattle.laws.specs.Pick.{pick}
 use native.Mathlib.Omega.{arith}
@@ -27,19 +26,19 @@ loop-holds : tie.Need-loop-holds Inv-loop μ-loop
 loop-holds c = (omega arith, storing-none _ _ _)
 
 add-if1 : tie.Need-add-if1 Inv-loop μ-loop
-add-if1 c = search needs
+add-if1 c = omega arith
 
 mul-if1 : tie.Need-mul-if1 Inv-loop μ-loop
-mul-if1 c = search needs
+mul-if1 c = omega arith
 
 slice-read-if1 : tie.Need-slice-read-if1 Inv-loop μ-loop
-slice-read-if1 c = search needs
+slice-read-if1 c = omega arith
 
 add-scratch : tie.Need-add-scratch Inv-loop μ-loop
-add-scratch c = search needs
+add-scratch c = omega arith
 
 shared-slice-read-scratch : tie.Need-shared-slice-read-scratch Inv-loop μ-loop
-shared-slice-read-scratch c = search needs
+shared-slice-read-scratch c = omega arith
 
 cast-scratch : tie.Need-cast-scratch Inv-loop μ-loop
 cast-scratch c =
@@ -49,19 +48,19 @@ cast-scratch c =
     omega (arith, small (4 + turn .i))
 
 add-scratch-2 : tie.Need-add-scratch-2 Inv-loop μ-loop
-add-scratch-2 c = search needs
+add-scratch-2 c = omega arith
 
 mul-scratch : tie.Need-mul-scratch Inv-loop μ-loop
-mul-scratch c = search needs
+mul-scratch c = omega arith
 
 slice-write-scratch : tie.Need-slice-write-scratch Inv-loop μ-loop
-slice-write-scratch c = search needs
+slice-write-scratch c = omega arith
 
 add-i : tie.Need-add-i Inv-loop μ-loop
-add-i c = search needs
+add-i c = omega arith
 
 loop-less : tie.Need-loop-less Inv-loop μ-loop
-loop-less c = search needs
+loop-less c = omega arith
 
 loop-again : tie.Need-loop-again Inv-loop μ-loop
 loop-again c =
@@ -77,7 +76,7 @@ loop-again c =
     (omega arith, storing-more _ _ _ (turn .inv .1) _ _ (omega arith) refl told)
 
 same-length : tie.Need-same-length Inv-loop μ-loop
-same-length c = search needs
+same-length c = omega arith
 
 returns : tie.Need-returns Inv-loop μ-loop
 returns c =

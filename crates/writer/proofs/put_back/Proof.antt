@@ -13,10 +13,10 @@ put-byte-requires : tie.Need-put-byte-requires
 put-byte-requires c κs = search needs
 
 add-text : tie.Need-add-text
-add-text c = search needs
+add-text c = omega arith
 
 slice-write-text : tie.Need-slice-write-text
-slice-write-text c = search needs
+slice-write-text c = omega arith
 
 same-length : tie.Need-same-length
 same-length c = search needs

@@ -11,13 +11,13 @@ digit-requires : tie.Need-digit-requires
 digit-requires c κs = search needs
 
 slice-write-text : tie.Need-slice-write-text
-slice-write-text c = search needs
+slice-write-text c = omega arith
 
 digit-requires-2 : tie.Need-digit-requires-2
 digit-requires-2 c κs = search needs
 
 add-text : tie.Need-add-text
-add-text c = search needs
+add-text c = omega arith
 
 slice-write-text-2 : tie.Need-slice-write-text-2
 slice-write-text-2 c = simp length-set (omega arith)

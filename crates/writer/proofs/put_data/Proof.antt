@@ -28,13 +28,13 @@ rows-in-requires : tie.Need-rows-in-requires Inv-loop μ-loop Inv-loop2 μ-loop2
 rows-in-requires c κs = search needs
 
 mul-first : tie.Need-mul-first Inv-loop μ-loop Inv-loop2 μ-loop2
-mul-first c = search needs
+mul-first c = omega arith
 
 mul-first-2 : tie.Need-mul-first-2 Inv-loop μ-loop Inv-loop2 μ-loop2
-mul-first-2 c = search needs
+mul-first-2 c = omega arith
 
 add-first : tie.Need-add-first Inv-loop μ-loop Inv-loop2 μ-loop2
-add-first c = search needs
+add-first c = omega arith
 
 loop-holds : tie.Need-loop-holds Inv-loop μ-loop Inv-loop2 μ-loop2
 loop-holds c =
@@ -43,10 +43,10 @@ loop-holds c =
     record { within = omega arith; most = omega (arith, rows-most (a .n) (omega arith)); rows-are = are; spelled = spelled-none _ _ _ }
 
 add-half-of : tie.Need-add-half-of Inv-loop μ-loop Inv-loop2 μ-loop2
-add-half-of c = search needs
+add-half-of c = omega arith
 
 mul-half-of : tie.Need-mul-half-of Inv-loop μ-loop Inv-loop2 μ-loop2
-mul-half-of c = search needs
+mul-half-of c = omega arith
 
 shared-slice-read-half-of : tie.Need-shared-slice-read-half-of Inv-loop μ-loop Inv-loop2 μ-loop2
 shared-slice-read-half-of c =
@@ -63,10 +63,10 @@ half-of-requires c κs =
     font-row (a .font .now) (pre .font-is) _
 
 mul-put-byte : tie.Need-mul-put-byte Inv-loop μ-loop Inv-loop2 μ-loop2
-mul-put-byte c = search needs
+mul-put-byte c = omega arith
 
 add-put-byte : tie.Need-add-put-byte Inv-loop μ-loop Inv-loop2 μ-loop2
-add-put-byte c = search needs
+add-put-byte c = omega arith
 
 put-byte-requires : tie.Need-put-byte-requires Inv-loop μ-loop Inv-loop2 μ-loop2
 put-byte-requires c κs = search needs
@@ -75,10 +75,10 @@ wrapping-add-u8-requires : tie.Need-wrapping-add-u8-requires Inv-loop μ-loop In
 wrapping-add-u8-requires c κs = search needs
 
 add-i : tie.Need-add-i Inv-loop μ-loop Inv-loop2 μ-loop2
-add-i c = search needs
+add-i c = omega arith
 
 loop-less : tie.Need-loop-less Inv-loop μ-loop Inv-loop2 μ-loop2
-loop-less c = search needs
+loop-less c = omega arith
 
 loop-again : tie.Need-loop-again Inv-loop μ-loop Inv-loop2 μ-loop2
 loop-again c =
@@ -99,10 +99,10 @@ loop2-holds : tie.Need-loop2-holds Inv-loop μ-loop Inv-loop2 μ-loop2
 loop2-holds c = record { within = omega arith; past = omega arith; size = refl; goes = λ t s. s }
 
 mul-put-byte-2 : tie.Need-mul-put-byte-2 Inv-loop μ-loop Inv-loop2 μ-loop2
-mul-put-byte-2 c = search needs
+mul-put-byte-2 c = omega arith
 
 add-put-byte-2 : tie.Need-add-put-byte-2 Inv-loop μ-loop Inv-loop2 μ-loop2
-add-put-byte-2 c = search needs
+add-put-byte-2 c = omega arith
 
 put-byte-requires-2 : tie.Need-put-byte-requires-2 Inv-loop μ-loop Inv-loop2 μ-loop2
 put-byte-requires-2 c κs = search needs
@@ -111,10 +111,10 @@ wrapping-add-u8-requires-2 : tie.Need-wrapping-add-u8-requires-2 Inv-loop μ-loo
 wrapping-add-u8-requires-2 c κs = search needs
 
 add-i-2 : tie.Need-add-i-2 Inv-loop μ-loop Inv-loop2 μ-loop2
-add-i-2 c = search needs
+add-i-2 c = omega arith
 
 loop2-less : tie.Need-loop2-less Inv-loop μ-loop Inv-loop2 μ-loop2
-loop2-less c = search needs
+loop2-less c = omega arith
 
 loop2-again : tie.Need-loop2-again Inv-loop μ-loop Inv-loop2 μ-loop2
 loop2-again c =
@@ -131,7 +131,7 @@ loop2-again c =
     }
 
 same-length : tie.Need-same-length Inv-loop μ-loop Inv-loop2 μ-loop2
-same-length c = search needs
+same-length c = omega arith
 
 returns : tie.Need-returns Inv-loop μ-loop Inv-loop2 μ-loop2
 returns c =

@@ -1,7 +1,6 @@
 -- `writer::put_front`. The colon and four bytes in turn are the front.
 -- Assumes nothing.
 use native.Mathlib.Omega.{arith}
-use borrow.Author.Needs.{needs}
 use lib.ListN.{length-set}
 use Rattle.hex.specs.Records.{colon}
 use Rattle.writer.proofs.Spelling.{front-stored}
@@ -9,10 +8,10 @@ use Rattle.writer.proofs.put_front.Statement.{statement}
 use Rattle.writer.proofs.put_front.Tie as tie
 
 slice-write-text : tie.Need-slice-write-text
-slice-write-text c = search needs
+slice-write-text c = omega arith
 
 add-put-byte : tie.Need-add-put-byte
-add-put-byte c = search needs
+add-put-byte c = omega arith
 
 put-byte-requires : tie.Need-put-byte-requires
 put-byte-requires c κs =
@@ -20,7 +19,7 @@ put-byte-requires c κs =
     omega (arith, length-set (a .text .now) (a .at) colon)
 
 add-put-byte-2 : tie.Need-add-put-byte-2
-add-put-byte-2 c = search needs
+add-put-byte-2 c = omega arith
 
 put-byte-requires-2 : tie.Need-put-byte-requires-2
 put-byte-requires-2 c κs =
@@ -28,7 +27,7 @@ put-byte-requires-2 c κs =
     omega (arith, length-set (a .text .now) (a .at) colon)
 
 add-put-byte-3 : tie.Need-add-put-byte-3
-add-put-byte-3 c = search needs
+add-put-byte-3 c = omega arith
 
 put-byte-requires-3 : tie.Need-put-byte-requires-3
 put-byte-requires-3 c κs =
@@ -36,7 +35,7 @@ put-byte-requires-3 c κs =
     omega (arith, length-set (a .text .now) (a .at) colon)
 
 add-put-byte-4 : tie.Need-add-put-byte-4
-add-put-byte-4 c = search needs
+add-put-byte-4 c = omega arith
 
 put-byte-requires-4 : tie.Need-put-byte-requires-4
 put-byte-requires-4 c κs =

@@ -8,31 +8,31 @@ use Rattle.writer.proofs.put_record.Statement.{statement}
 use Rattle.writer.proofs.put_record.Tie as tie
 
 mul-at : tie.Need-mul-at
-mul-at c = search needs
+mul-at c = omega arith
 
 mul-address : tie.Need-mul-address
-mul-address c = search needs
+mul-address c = omega arith
 
 cast-count : tie.Need-cast-count
-cast-count c = search needs
+cast-count c = omega arith
 
 cast-high : tie.Need-cast-high
-cast-high c = search needs
+cast-high c = omega arith
 
 cast-low : tie.Need-cast-low
-cast-low c = search needs
+cast-low c = omega arith
 
 put-front-requires : tie.Need-put-front-requires
 put-front-requires c κs = search needs
 
 add-put-data : tie.Need-add-put-data
-add-put-data c = search needs
+add-put-data c = omega arith
 
 put-data-requires : tie.Need-put-data-requires
 put-data-requires c κs = search needs
 
 add-wrapping-add-u8 : tie.Need-add-wrapping-add-u8
-add-wrapping-add-u8 c = search needs
+add-wrapping-add-u8 c = omega arith
 
 wrapping-add-u8-requires : tie.Need-wrapping-add-u8-requires
 wrapping-add-u8-requires c κs = search needs
@@ -41,19 +41,19 @@ wrapping-add-u8-requires-2 : tie.Need-wrapping-add-u8-requires-2
 wrapping-add-u8-requires-2 c κs = search needs
 
 add-put-back : tie.Need-add-put-back
-add-put-back c = search needs
+add-put-back c = omega arith
 
 mul-put-back : tie.Need-mul-put-back
-mul-put-back c = search needs
+mul-put-back c = omega arith
 
 add-put-back-2 : tie.Need-add-put-back-2
-add-put-back-2 c = search needs
+add-put-back-2 c = omega arith
 
 put-back-requires : tie.Need-put-back-requires
 put-back-requires c κs = search needs
 
 same-length : tie.Need-same-length
-same-length c = search needs
+same-length c = omega arith
 
 returns : tie.Need-returns
 returns c =

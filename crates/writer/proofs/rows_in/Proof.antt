@@ -6,7 +6,6 @@ use mathlib.Core.Path.{_≡_}
 use lib.Dec.{ltb, eqb}
 use Rattle.font.specs.Font.{fontCells}
 use native.Mathlib.Omega.{arith}
-use borrow.Author.Needs.{needs}
 use borrow.Author.Tests.{lt-ltb, le-ltb, eq-eqb, ne-eqb}
 use Rattle.writer.specs.Steps.{halfRecords, rowsIn}
 use Rattle.writer.proofs.rows_in.Statement.{statement}
@@ -28,7 +27,7 @@ returns-2 c =
     simp (cell, first)
 
 sub-result : tie.Need-sub-result
-sub-result c = search needs
+sub-result c = omega arith
 
 returns-3 : tie.Need-returns-3
 unfolding rowsIn

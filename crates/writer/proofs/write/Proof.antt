@@ -47,7 +47,7 @@ put-text-requires : tie.Need-put-text-requires
 put-text-requires c κs = record { font-is = search holds; room = omega arith }
 
 same-length : tie.Need-same-length
-same-length c = search needs
+same-length c = omega arith
 
 returns-3 : tie.Need-returns-3
 unfolding answerOf leftOf
