@@ -11,9 +11,11 @@ static int check_file(const char *path, bool whole)
 {
     struct font font;
     int status = load_font(path, whole, &font);
-    if (status == DONE)
-        printf("%s: cells %d bytes %lu\n", input_name(path), (int)DIRGEFLINT_CELLS, (unsigned long)font.given);
-    return status;
+    if (status != DONE)
+        return status;
+    write_name(stdout, input_name(path));
+    printf(": cells %d bytes %lu\n", (int)DIRGEFLINT_CELLS, (unsigned long)font.given);
+    return DONE;
 }
 
 static int count_standard(int count, char **words)

@@ -76,6 +76,8 @@ static int read_dots(const struct reader *reader, struct slice line, uint16_t *r
 
 static int read_row(struct reader *reader, struct slice line)
 {
+    if (reader->cell == DIRGEFLINT_CELLS && line.start[0] == '#')
+        return bad_line(reader, "a row before the first heading: write a line such as cell 00 above it; if it is a remark, begin it with ;");
     if (reader->cell == DIRGEFLINT_CELLS)
         return bad_line(reader, "a row before the first heading: write a line such as cell 00 above it");
     if (reader->row == DIRGEFLINT_CELL_ROWS)
@@ -116,7 +118,9 @@ int read_drawing(const char *path, struct drawing *drawing)
         return TROUBLE;
     struct reader reader = { input.name, { input.text, 0 }, drawing, DIRGEFLINT_CELLS, DIRGEFLINT_CELL_ROWS };
     memset(drawing, 0, sizeof *drawing);
-    int status = read_lines(&reader);
+    int status = judge_mark(&input);
+    if (status == DONE)
+        status = read_lines(&reader);
     free_input(&input);
     return status;
 }

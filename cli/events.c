@@ -40,11 +40,11 @@ static int event_line(const char *file, const struct statement *line, struct eve
     bool bare = event->kind == RESET;
     if (line->count != (bare ? 1 : 2))
         return bad_input(file, line->line, bare ? "reset stands alone" : "one number has to follow, and nothing else");
-    if (!bare && !read_number(line->words[1], &event->number))
-        return bad_input(file, line->line, "%s is no number", shown(line->words[1], room));
-    if (event->kind != PLAY && event->number > UINT8_MAX)
-        return bad_input(file, line->line, "%s is no byte: a byte is 0 to %d", shown(line->words[1], room), UINT8_MAX);
-    return DONE;
+    bool plays = event->kind == PLAY;
+    if (bare || read_number_within(line->words[1], 0, plays ? UINT32_MAX : UINT8_MAX, &event->number))
+        return DONE;
+    return bad_input(file, line->line, "%s is %s" IN_FORM, shown(line->words[1], room),
+                     plays ? "no number of clocks: a play has 0 to 16384" : "no byte: a byte is 0 to 255");
 }
 
 static int add_event(const char *file, struct events *events, size_t *room, struct event event)
@@ -93,6 +93,14 @@ static int read_lines(const struct input *input, struct events *events)
     return status;
 }
 
+static bool has_clock(const struct events *events)
+{
+    for (size_t i = 0; i < events->count; i++)
+        if (events->all[i].kind == PLAY && events->all[i].number > 0)
+            return true;
+    return false;
+}
+
 int read_events(const char *path, struct events *events)
 {
     struct input input;
@@ -100,7 +108,11 @@ int read_events(const char *path, struct events *events)
     events->count = 0;
     if (!read_input(path, SIZE_MAX, &input))
         return TROUBLE;
-    int status = read_lines(&input, events);
+    int status = judge_mark(&input);
+    if (status == DONE)
+        status = read_lines(&input, events);
+    if (status == DONE && !has_clock(events))
+        warn(input.name, "no clock is played");
     free_input(&input);
     return status;
 }

@@ -8,6 +8,16 @@
 
 enum { CELL_STRIDE = 32, HALF = 4096, SPARE = CELL_STRIDE - DIRGEFLINT_CELL_ROWS };
 
+/* What the whole text looks like, if that is the likelier cause than its first line. */
+static const char *explain_start(struct slice text)
+{
+    if (has_mark(text))
+        return MARKED;
+    if (text.length == DIRGEFLINT_IMAGE_BYTES && text.start[0] != ':')
+        return "this looks like an image, and a text is wanted: objcopy -I binary -O ihex IMAGE TEXT.hex makes one of it";
+    return NULL;
+}
+
 /* Each of these writes the reason to room, or leaves it empty where it does not find what the library found. */
 
 static void explain_shape(const struct record *record, struct slice line, char room[REASON])
@@ -152,16 +162,17 @@ static int explain_image(const struct input *input, dirgeflint_answer answer, co
 int explain_refusal(const struct input *input, dirgeflint_answer answer, const uint8_t *image)
 {
     if (input->text.length > DIRGEFLINT_MOST_TEXT)
-        return refused(input->name, 0, answer, "the text has more than %d bytes: leave out what is no record", (int)DIRGEFLINT_MOST_TEXT);
+        return refused(input->name, 0, answer, "the text has more than %d bytes: leave out what is no record, or write longer records", (int)DIRGEFLINT_MOST_TEXT);
     if (answer.number == DIRGEFLINT_BAD_END && answer.place <= input->text.length)
         return explain_end(input, answer);
     if (answer.number == DIRGEFLINT_NO_FONT)
         return explain_image(input, answer, image);
-    char reason[REASON] = "";
+    char found[REASON] = "";
     if (answer.place < input->text.length)
-        explain_record(input->text, answer, reason);
+        explain_record(input->text, answer, found);
+    const char *start = explain_start(input->text), *reason = start != NULL ? start : found[0] != '\0' ? found : dirgeflint_reason(answer.number);
     size_t line = line_number(input->text, answer.place);
-    return refused(input->name, line, answer, "record %zu: %s", line, reason[0] == '\0' ? dirgeflint_reason(answer.number) : reason);
+    return refused(input->name, line, answer, "record %zu: %s", line, reason);
 }
 
 size_t first_not_given(struct slice text)

@@ -25,6 +25,19 @@ static int list_empty(const struct drawing *drawing, char list[LIST])
     return empty;
 }
 
+/* Tells of cells that are not drawn: bad input if the font has to be whole. */
+static int judge_empty(const char *file, const struct drawing *drawing, bool whole)
+{
+    char list[LIST];
+    int empty = list_empty(drawing, list);
+    const char *are = empty == 1 ? "cell is" : "cells are";
+    if (empty > 0 && whole)
+        return bad_input(file, 0, "%d %s not drawn: %s", empty, are, list);
+    if (empty > 0)
+        warn(file, "%d %s not drawn and %s empty: %s", empty, are, empty == 1 ? "is" : "are", list);
+    return DONE;
+}
+
 static int write_text(const struct drawing *drawing, const char *path)
 {
     static uint8_t text[DIRGEFLINT_TEXT_BYTES];
@@ -40,18 +53,16 @@ static int write_text(const struct drawing *drawing, const char *path)
 
 int font_command(int count, char **words)
 {
-    struct option options[] = { { "-o", true, NULL }, { NULL, false, NULL } };
+    struct option options[] = { { "-o", true, NULL }, { "--whole", false, NULL }, { NULL, false, NULL } };
     struct usage usage = { "font", "a DRAWING.txt, or -", 1, 1, options };
     struct drawing drawing;
-    char list[LIST];
     int status;
     if (!read_options(&usage, &count, words, &status))
         return status;
-    status = read_drawing(words[0], &drawing);
-    if (status != DONE)
-        return status;
-    int empty = list_empty(&drawing, list);
-    if (empty > 0)
-        warn(input_name(words[0]), "%d cells are not drawn and are empty: %s", empty, list);
-    return write_text(&drawing, options[0].value);
+    status = judge_output("font", options[0].value, words[0]);
+    if (status == DONE)
+        status = read_drawing(words[0], &drawing);
+    if (status == DONE)
+        status = judge_empty(input_name(words[0]), &drawing, options[1].value != NULL);
+    return status == DONE ? write_text(&drawing, options[0].value) : status;
 }

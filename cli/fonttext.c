@@ -4,7 +4,7 @@
 #include "input.h"
 #include "say.h"
 
-#define NOT_GIVEN "%d of %d bytes are not given; they count as FF, which is lit dots in a row: first at address %04X (%s)"
+#define NOT_GIVEN "%d of %d bytes %s as FF, which is lit dots in a row: first at address %04X (%s)"
 
 static int tell_gaps(const struct input *input, bool whole, uint32_t given)
 {
@@ -13,10 +13,11 @@ static int tell_gaps(const struct input *input, bool whole, uint32_t given)
     size_t first = first_not_given(input->text);
     if (missing == 0)
         return DONE;
+    const char *count = missing == 1 ? "is not given; it counts" : "are not given; they count";
     place_in_font(first, place);
     if (whole)
-        return bad_input(input->name, 0, NOT_GIVEN, missing, all, (unsigned)first, place);
-    warn(input->name, NOT_GIVEN, missing, all, (unsigned)first, place);
+        return bad_input(input->name, 0, NOT_GIVEN, missing, all, count, (unsigned)first, place);
+    warn(input->name, NOT_GIVEN, missing, all, count, (unsigned)first, place);
     return DONE;
 }
 

@@ -4,6 +4,7 @@
 #include <stdint.h>
 #include <stdio.h>
 #include <stdlib.h>
+#include <string.h>
 
 #include "say.h"
 
@@ -68,6 +69,17 @@ bool read_input(const char *path, size_t most, struct input *input)
     if (!standard)
         fclose(stream);
     return input->room != NULL;
+}
+
+bool has_mark(struct slice text)
+{
+    static const char mark[] = "\xEF\xBB\xBF";
+    return text.length >= sizeof mark - 1 && memcmp(text.start, mark, sizeof mark - 1) == 0;
+}
+
+int judge_mark(const struct input *input)
+{
+    return has_mark(input->text) ? bad_input(input->name, 1, MARKED) : DONE;
 }
 
 void free_input(struct input *input)

@@ -12,6 +12,7 @@ static const struct command {
 } commands[] = {
     { "check", check_command }, { "font", font_command },   { "show", show_command }, { "paint", paint_command },
     { "play", play_command },   { "pulse", pulse_command }, { "help", help_command }, { "--help", help_command },
+    { "-h", help_command },
 };
 
 static int print_version(int count, char **words)

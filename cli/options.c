@@ -4,6 +4,7 @@
 
 #include "commands.h"
 #include "input.h"
+#include "number.h"
 #include "say.h"
 
 static struct option *find_option(struct option *options, struct slice name)
@@ -24,21 +25,36 @@ static struct slice name_part(const char *word)
     return name;
 }
 
+/* A value that begins with a dash is the next option, the value being forgotten; - alone is a file. */
+static bool is_value(const char *word)
+{
+    return word != NULL && (word[0] != '-' || is_standard(word));
+}
+
+/* What is no option may have been meant as a number, which has no sign. */
+static void no_option(const struct usage *usage, struct slice name)
+{
+    char room[SHOWN];
+    if (name.length > 1 && digit_value(name.start[1]) >= 0 && digit_value(name.start[1]) < 10)
+        wrong_usage(usage->command, "%s is no option, and a number has no sign: %s needs %s", shown(name, room), usage->command, usage->needs);
+    else
+        wrong_usage(usage->command, "there is no option %s", shown(name, room));
+}
+
 /* Takes the option in word, and its value, from next if it is not in the word. Gives how many words it took; 0 if they are wrong. */
 static int take_option(const struct usage *usage, const char *word, const char *next)
 {
-    char room[SHOWN];
     struct slice name = name_part(word);
     struct option *option = find_option(usage->options, name);
     const char *value = word[name.length] == '=' ? word + name.length + 1 : NULL;
     int taken = value == NULL && option != NULL && option->takes_value ? 2 : 1;
     if (option == NULL)
-        wrong_usage(usage->command, "there is no option %s", shown(name, room));
+        no_option(usage, name);
     else if (option->value != NULL)
         wrong_usage(usage->command, "%s is given twice", option->name);
     else if (!option->takes_value && value != NULL)
         wrong_usage(usage->command, "%s takes no value", option->name);
-    else if (taken == 2 && next == NULL)
+    else if (taken == 2 && !is_value(next))
         wrong_usage(usage->command, "%s needs a value", option->name);
     else {
         option->value = taken == 2 ? next : value != NULL ? value : word;
@@ -71,7 +87,7 @@ bool read_options(const struct usage *usage, int *count, char **words, int *stat
         } else if (strcmp(word, "--") == 0) {
             options_end = true;
             i++;
-        } else if (strcmp(word, "--help") == 0) {
+        } else if (strcmp(word, "--help") == 0 || strcmp(word, "-h") == 0) {
             *status = help_on(usage->command);
             return false;
         } else {

@@ -10,6 +10,7 @@
 #include <sys/stat.h>
 #include <unistd.h>
 
+#include "input.h"
 #include "say.h"
 
 enum { MOST_LINKS = 40, MOST_PATH = 4096 };
@@ -46,6 +47,16 @@ void prepare_output(void)
 bool is_standard_output(const char *path)
 {
     return path == NULL || strcmp(path, "-") == 0 || strcmp(path, "/dev/stdout") == 0;
+}
+
+int judge_output(const char *command, const char *path, const char *input)
+{
+    struct stat to, from;
+    if (path == NULL || strcmp(path, "-") == 0 || stat(path, &to) == -1 || !S_ISREG(to.st_mode))
+        return DONE;
+    if ((is_standard(input) ? fstat(STDIN_FILENO, &from) : stat(input, &from)) == -1)
+        return DONE;
+    return to.st_dev == from.st_dev && to.st_ino == from.st_ino ? wrong_output(command, path) : DONE;
 }
 
 static const char *after_last_slash(const char *path)

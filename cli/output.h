@@ -15,6 +15,9 @@ struct output {
 /* Standard output is what no path, - and /dev/stdout name. */
 bool is_standard_output(const char *path);
 
+/* Wrong usage, for which it gives the status, if the path leads to the regular file that the input is: it would be lost. */
+int judge_output(const char *command, const char *path, const char *input);
+
 /* Opens a file to write to its stream. False, and a message, if it cannot be written. */
 bool open_output(const char *path, struct output *output);
 

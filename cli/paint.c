@@ -1,3 +1,4 @@
+#include <inttypes.h>
 #include <stdlib.h>
 
 #include "commands.h"
@@ -7,6 +8,7 @@
 #include "options.h"
 #include "output.h"
 #include "picture.h"
+#include "reach.h"
 #include "say.h"
 #include "screen.h"
 
@@ -22,7 +24,7 @@ static const char *const ranges[NUMBERS] = {
     [V] = "v is 0 to 63",
     [RATIO] = "ratios are 0 to 2, and 3 is reserved",
     [FREQUENCY] = "frequencies are 0 to 3",
-    [FRAME] = "a frame is a number of 32 bits",
+    [FRAME] = "frames are 0 to 4294967295",
     [WIDTH] = "widths are 1 to 1024",
     [LINES] = "there are 1 to 1024 lines",
 };
@@ -113,6 +115,22 @@ static int read_scene(const char *screen, const char *font_path, struct font *fo
     return of_font > of_screen ? of_font : of_screen;
 }
 
+/* A width or lines that are not given cannot be as many as the cells ask for. */
+static void warn_of_reach(const char *file, const struct scene *scene, const struct picture *picture)
+{
+    enum { MOST = DIRGEFLINT_MOST_WIDTH, MOST_LINES = DIRGEFLINT_MOST_LINE + 1 };
+    struct reach reach = find_reach(scene->words, scene->settings.h, scene->settings.v);
+    if ((picture->width == 0 && reach.dots > MOST) || (picture->lines == 0 && reach.lines > MOST_LINES))
+        warn(file, "the cells reach %" PRIu64 " dots by %" PRIu64 " lines; at most %d by %d are painted", reach.dots, reach.lines, (int)MOST, (int)MOST_LINES);
+}
+
+/* The output may be neither of the files that are read. */
+static int judge_files(const char *screen, const char *font, const char *output)
+{
+    int status = judge_output("paint", output, screen);
+    return status == DONE ? judge_output("paint", output, font) : status;
+}
+
 /* What can be seen to be wrong before any file is read. */
 static int judge_usage(const char *screen, const struct option options[OPTIONS], uint32_t numbers[NUMBERS])
 {
@@ -122,6 +140,8 @@ static int judge_usage(const char *screen, const struct option options[OPTIONS],
     if (is_standard(screen) && is_standard(font))
         return wrong_usage("paint", "standard input can be the screen or the font, not both");
     int status = read_numbers(options, numbers);
+    if (status == DONE)
+        status = judge_files(screen, font, options[OUTPUT].value);
     return status == DONE ? judge_numbers(options, numbers) : status;
 }
 
@@ -148,6 +168,7 @@ int paint_command(int count, char **words)
     status = read_scene(words[0], options[FONT].value, &font, &scene);
     if (status != DONE)
         return status;
+    warn_of_reach(input_name(words[0]), &scene, &picture);
     const char *path = options[OUTPUT].value;
     return paint_scene(&scene, &picture, path, options[TEXT].value != NULL || path == NULL);
 }

@@ -27,7 +27,7 @@ static void end_period(struct player *player)
     fprintf(player->lines, "period %" PRIu64 ": coarse %d fine %d T %d high %" PRIu32, player->period, pair.coarse, pair.fine,
             DIRGEFLINT_SUB_PERIODS * pair.coarse + pair.fine, player->high);
     if (player->clocks < DIRGEFLINT_PERIOD)
-        fprintf(player->lines, " in %" PRIu32 " clocks", player->clocks);
+        fprintf(player->lines, " in %" PRIu32 " clock%s", player->clocks, player->clocks == 1 ? "" : "s");
     fputc('\n', player->lines);
     player->period++;
     player->clocks = 0;
@@ -105,6 +105,9 @@ int play_command(int count, char **words)
     if (!read_options(&usage, &count, words, &status))
         return status;
     const char *path = options[0].value;
+    status = judge_output("play", path, words[0]);
+    if (status != DONE)
+        return status;
     struct player player = { .period = 1, .lines = path != NULL && is_standard_output(path) ? stderr : stdout };
     dirgeflint_dac_reset(&player.dac);
     status = read_events(words[0], &events);

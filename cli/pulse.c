@@ -25,7 +25,7 @@ static dirgeflint_answer draw_period(uint32_t channel, uint8_t byte, char clocks
 int pulse_command(int count, char **words)
 {
     struct option options[] = { { NULL, false, NULL } };
-    struct usage usage = { "pulse", "a CHANNEL and a BYTE", 2, 2, options };
+    struct usage usage = { "pulse", "a CHANNEL from 0 to 7 and a BYTE from 0 to 255", 2, 2, options };
     char clocks[LONGEST + 1], room[SHOWN];
     uint32_t channel, byte, high;
     int status;

@@ -2,19 +2,37 @@
 
 #include <errno.h>
 #include <stdarg.h>
-#include <stdio.h>
 #include <string.h>
+
+void write_name(FILE *stream, const char *file)
+{
+    enum { DELETE = 127 };
+    for (; *file != '\0'; file++) {
+        unsigned char byte = (unsigned char)*file;
+        if (byte < ' ' || byte == DELETE)
+            fprintf(stream, "\\x%02X", (unsigned)byte);
+        else
+            fputc(byte, stream);
+    }
+}
 
 /* What stands on standard output already comes first where both go to one place. */
 static void begin(const char *file, size_t line)
 {
     int kept = errno;
     fflush(stdout);
-    fprintf(stderr, "%s:", file);
+    write_name(stderr, file);
+    fputc(':', stderr);
     if (line > 0)
         fprintf(stderr, "%zu:", line);
     fputc(' ', stderr);
     errno = kept;
+}
+
+static int end_usage(const char *command)
+{
+    fprintf(stderr, "; try: " PROGRAM " help%s%s\n", command == NULL ? "" : " ", command == NULL ? "" : command);
+    return TROUBLE;
 }
 
 int wrong_usage(const char *command, const char *format, ...)
@@ -23,9 +41,17 @@ int wrong_usage(const char *command, const char *format, ...)
     va_start(rest, format);
     begin(PROGRAM, 0);
     vfprintf(stderr, format, rest);
-    fprintf(stderr, "; try: " PROGRAM " help%s%s\n", command == NULL ? "" : " ", command == NULL ? "" : command);
     va_end(rest);
-    return TROUBLE;
+    return end_usage(command);
+}
+
+int wrong_output(const char *command, const char *file)
+{
+    begin(PROGRAM, 0);
+    fputs("-o ", stderr);
+    write_name(stderr, file);
+    fputs(" is also an input: name another file", stderr);
+    return end_usage(command);
 }
 
 int bad_input(const char *file, size_t line, const char *format, ...)

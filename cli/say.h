@@ -3,6 +3,7 @@
 #define SAY_H
 
 #include <stddef.h>
+#include <stdio.h>
 
 #include "dirgeflint.h"
 
@@ -22,8 +23,12 @@ enum {
 /* What a message is about when no file is. */
 #define PROGRAM "dirgeflint"
 
+/* A file's name as messages and lines have it: a control character as \xHH, so that it stays on its line. */
+void write_name(FILE *stream, const char *file);
+
 /* Each of these gives back the status that goes with what it says. Line 0 is no line. */
 int wrong_usage(const char *command, const char *format, ...) LIKE_PRINTF(2, 3);
+int wrong_output(const char *command, const char *file); /* an output that is an input, too */
 int bad_input(const char *file, size_t line, const char *format, ...) LIKE_PRINTF(3, 4);
 int refused(const char *file, size_t line, dirgeflint_answer answer, const char *format, ...) LIKE_PRINTF(4, 5);
 

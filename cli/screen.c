@@ -33,7 +33,7 @@ static int character_line(const char *file, const struct statement *line, uint16
     if (line->count < 3 || line->count > 4 || (line->count == 4 && !slice_is(line->words[3], "blink")))
         return wrong_form(file, line, "character CELL COLOUR, and then blink or nothing");
     if (!read_number_within(line->words[1], 0, DIRGEFLINT_CELLS - 1, &cell))
-        return wrong_part(file, line, 1, "no cell: cells are 0 to 61");
+        return wrong_part(file, line, 1, "no cell: cells are 0 to 61" IN_FORM);
     if (colour_part(file, line, 2, &colour) != DONE)
         return BAD;
     *word = dirgeflint_character(cell, colour, line->count == 4);
@@ -76,7 +76,7 @@ static int number_line(const char *file, const struct statement *line, uint16_t 
 {
     uint32_t number;
     if (!read_number(line->words[0], &number))
-        return wrong_part(file, line, 0, "no word: a line is character, space, return, end, or a number");
+        return wrong_part(file, line, 0, "no word: a line is character, space, return, end, or a number from 0 to 1023" IN_FORM);
     if (line->count != 1)
         return wrong_form(file, line, "the word's number alone");
     if (number > DIRGEFLINT_MOST_WORD)
@@ -111,6 +111,8 @@ static int screen_lines(const struct input *input, uint16_t words[DIRGEFLINT_WOR
         if (status != DONE)
             return status;
     }
+    if (count == 0)
+        warn(input->name, "no word is given: the screen is empty");
     while (count < DIRGEFLINT_WORDS)
         words[count++] = dirgeflint_end();
     return DONE;
@@ -121,7 +123,9 @@ int read_screen(const char *path, uint16_t words[DIRGEFLINT_WORDS])
     struct input input;
     if (!read_input(path, SIZE_MAX, &input))
         return TROUBLE;
-    int status = screen_lines(&input, words);
+    int status = judge_mark(&input);
+    if (status == DONE)
+        status = screen_lines(&input, words);
     free_input(&input);
     return status;
 }

@@ -41,13 +41,15 @@ static void write_cells(FILE *stream, const uint16_t *font, char *const *cells, 
 int show_command(int count, char **words)
 {
     struct option options[] = { { "-o", true, NULL }, { NULL, false, NULL } };
-    struct usage usage = { "show", "a FONT.hex, or -", 1, INT_MAX, options };
+    struct usage usage = { "show", "a FONT.hex, or -, and then CELLs from 0 to 61 or none", 1, INT_MAX, options };
     struct font font;
     struct output output;
     int status;
     if (!read_options(&usage, &count, words, &status))
         return status;
     status = wrong_cell(words + 1, count - 1);
+    if (status == DONE)
+        status = judge_output("show", options[0].value, words[0]);
     if (status == DONE)
         status = load_font(words[0], false, &font);
     if (status != DONE)
