@@ -1,7 +1,7 @@
 /*
  * Dirgeflint: what the PCA84C646 shows on the screen and puts out as pulses.
  *
- * For C99 or C++11, and whatever is later. All that a host needs stands in this file; docs/GUIDE.md goes through a screen, a font and a
+ * For C99 or C++11, or later. All that a host needs stands in this file; docs/GUIDE.md goes through a screen, a font and a
  * tuning step from nothing. The pages that are named here are the repository's; they are installed below share/doc/dirgeflint too.
  *
  * Every function takes every input and always returns. None allocates and none keeps state of its own, so all may be called from any
