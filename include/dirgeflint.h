@@ -1,7 +1,8 @@
 /*
  * Dirgeflint: what the PCA84C646 shows on the screen and puts out as pulses.
  *
- * All that a host needs stands in this file; docs/GUIDE.md goes through a screen, a font and a tuning step from nothing.
+ * For C99 or C++11, or later. All that a host needs stands in this file; docs/GUIDE.md goes through a screen, a font and a
+ * tuning step from nothing. The pages that are named here are the repository's; they are installed below share/doc/dirgeflint too.
  *
  * Every function takes every input and always returns. None allocates and none keeps state of its own, so all may be called from any
  * thread as long as no two calls share memory that one of them writes.
@@ -54,7 +55,7 @@ enum {
 /* The numbers of refusals. Each function lists its own, in the order in which they are tested. */
 enum {
     DIRGEFLINT_ACCEPTED = 0,
-    DIRGEFLINT_BAD_SETTING = 1,      /* paint: mode, colour, h, v, ratio or frequency out of range */
+    DIRGEFLINT_BAD_SETTING = 1,      /* paint: mode, colour, h, v or frequency out of range, or ratio above 3 */
     DIRGEFLINT_RESERVED_RATIO = 2,   /* paint: blink ratio 3 */
     DIRGEFLINT_BAD_WORDS = 3,        /* paint: not 64 words, or a word above 1023 */
     DIRGEFLINT_BAD_FONT = 4,         /* paint, write: not 1,116 rows, or a row above 4095 */
@@ -76,7 +77,7 @@ static inline const char *dirgeflint_reason(uint32_t number)
 {
     switch (number) {
     case DIRGEFLINT_ACCEPTED: return "accepted";
-    case DIRGEFLINT_BAD_SETTING: return "a setting is out of its range (mode 0 to 3, colour 0 to 7, h and v 0 to 63, ratio 0 to 2, frequency 0 to 3)";
+    case DIRGEFLINT_BAD_SETTING: return "a setting is out of its range (mode 0 to 3, colour 0 to 7, h and v 0 to 63, ratio 0 to 3 with 3 reserved, frequency 0 to 3)";
     case DIRGEFLINT_RESERVED_RATIO: return "blink ratio 3 is reserved: use 0, 1 or 2";
     case DIRGEFLINT_BAD_WORDS: return "there must be 64 words, each at most 1023";
     case DIRGEFLINT_BAD_FONT: return "there must be 1,116 font rows, each at most 4095";
@@ -146,7 +147,7 @@ dirgeflint_answer dirgeflint_pulse_level(uint32_t channel, uint8_t byte, uint32_
  *
  * On a set, before you tune: by the PCA84C646's own sheet the low write completes the pair, not the high one (S36 to S38); the same two
  * halves are high for 16,383 - T clocks, so that a preset loaded unchanged is mirrored (S41 to S43); a new pair takes effect inside the
- * period (S39); and the pulses lie at the end of a sub-period, not at its start (S44, S45).
+ * period (S39); and of a sub-period's clocks the coarse ones are the last and the added one is the first (S44, S45).
  */
 typedef struct dirgeflint_pair {
     uint8_t coarse; /* high half */
@@ -160,7 +161,12 @@ typedef struct dirgeflint_dac {
     dirgeflint_pair in_force;  /* the pair that is being played */
 } dirgeflint_dac;
 
-/* Makes the record what it is after reset: 0 everywhere. */
+/*
+ * Makes the record what it is after reset: 0 everywhere, so that nothing is high until a pair is written.
+ *
+ * On a set the halves are 0 after reset as well, but by the sheet that is the widest output, 16,383 clocks of 16,384: enabled before the
+ * first write, the tuning voltage is at the top (S63).
+ */
 void dirgeflint_dac_reset(dirgeflint_dac *dac);
 
 /* Writes the low register: its 7 low bits are held as the fine half, until a high write takes them into a pair. */
@@ -272,8 +278,8 @@ void dirgeflint_port_write_character(dirgeflint_port *port, uint8_t byte);
  * 128 for frequency 0 to 3.
  *
  * On a set: rows start five dots further right (S6); mode 1 has a shadow (S22); in mode 3 unlit dots have the one colour of register 37,
- * whatever spaces say (S21); boxes before the first space are blue (S20); the PCE84C886 enlarges heights only (S10); frames count twice in an interlaced
- * picture (S28).
+ * whatever spaces say (S21); boxes before the first space are blue (S20); the PCE84C886 enlarges heights only (S10); each field of an
+ * interlaced picture counts as a frame (S28).
  */
 enum {
     DIRGEFLINT_VIDEO = 0,   /* a dot that shows the television picture */
@@ -284,9 +290,9 @@ typedef struct dirgeflint_settings {
     bool on;            /* off: every dot is video, in every mode */
     uint32_t mode;      /* 0 to 3 */
     uint32_t colour;    /* 0 to 7: the background before the first space, and mode 3's outside */
-    uint32_t h;         /* 0 to 63: rows start at dot 4h */
+    uint32_t h;         /* 0 to 63: rows start at dot 4h; on a set give 10 or more (S7) */
     uint32_t v;         /* 0 to 63: the first row starts at line 4v */
-    uint32_t ratio;     /* 0 to 2 */
+    uint32_t ratio;     /* 0 to 2; 3 is reserved */
     uint32_t frequency; /* 0 to 3 */
 } dirgeflint_settings;
 
@@ -299,7 +305,7 @@ typedef struct dirgeflint_settings {
  * line    0 to 1023
  * width   0 to 1024
  *
- * Refuses 1: a mode, colour, h, v, frequency or ratio out of range (ratio 3 is in range, and reserved)
+ * Refuses 1: a mode, colour, h, v or frequency out of its range, or a ratio above 3
  *         2: ratio 3
  *         3: words_length not 64, or a word above 1023
  *         4: font_length not 1,116, or a row above 4095

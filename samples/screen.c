@@ -2,7 +2,7 @@
 #include "dirgeflint.h"
 #include <stdio.h>
 
-enum { WIDTH = 84 };
+enum { WIDTH = 112 };
 
 /* One byte more than a text may have, so that a longer one is refused and not cut. */
 static uint8_t text[DIRGEFLINT_MOST_TEXT + 1], image[DIRGEFLINT_IMAGE_BYTES], dots[WIDTH];
@@ -40,7 +40,8 @@ int main(int count, char **names)
     dirgeflint_port_write_attribute(&port, 1);
     dirgeflint_port_write_character(&port, 63);
 
-    dirgeflint_settings settings = { .on = true, .mode = 2, .colour = DIRGEFLINT_BLUE, .h = 3, .v = 0, .ratio = 0, .frequency = 0 };
+    /* An h of 10 or more, as the data sheets vouch for nothing below it. */
+    dirgeflint_settings settings = { .on = true, .mode = 2, .colour = DIRGEFLINT_BLUE, .h = 10, .v = 0, .ratio = 0, .frequency = 0 };
     for (uint32_t line = 0; line < DIRGEFLINT_CELL_ROWS; line++) {
         a = dirgeflint_paint(port.words, DIRGEFLINT_WORDS, font, DIRGEFLINT_FONT_ROWS, settings, 0, line, WIDTH, dots, sizeof dots);
         if (a.number != DIRGEFLINT_ACCEPTED)
