@@ -3,7 +3,7 @@
 use super::folder::{Folder, Thing, Things};
 use super::program::{End, Ended, Order, Program};
 use super::report::{difference, indented, shown, typed};
-use std::ffi::OsString;
+use std::ffi::{OsStr, OsString};
 
 /// A line of standard error. Where its wording is free, only its start and its end are known, and what it has to name.
 #[derive(Clone, Debug)]
@@ -72,8 +72,11 @@ pub enum Out {
 pub enum Said {
     Exactly(Vec<u8>),
     Lines(Vec<Line>),
-    /// These lines, or nothing: where either will do.
-    Perhaps(Vec<Line>),
+    /// All the lines that are due and any of the others, in any order: where either will do.
+    Among {
+        due: Vec<Line>,
+        others: Vec<Line>,
+    },
     /// Not empty unless the status is 0.
     IfNotDone,
 }
@@ -89,7 +92,7 @@ pub enum Written {
 #[derive(Clone, Debug)]
 pub struct Case {
     pub name: String,
-    pub things: Vec<(String, Thing)>,
+    pub things: Vec<(OsString, Thing)>,
     pub words: Vec<Vec<u8>>,
     pub input: Option<Vec<u8>>,
     pub full: bool,
@@ -98,7 +101,7 @@ pub struct Case {
     pub out: Out,
     pub said: Said,
     /// Every file that is new or changed; all else in the folder stays.
-    pub written: Vec<(String, Written)>,
+    pub written: Vec<(OsString, Written)>,
 }
 
 /// A case that is done, says nothing and writes nothing: what differs is added.
@@ -117,12 +120,12 @@ pub fn case(name: &str, words: &str) -> Case {
 }
 
 impl Case {
-    pub fn file(self, name: &str, bytes: impl Into<Vec<u8>>) -> Self {
+    pub fn file(self, name: impl AsRef<OsStr>, bytes: impl Into<Vec<u8>>) -> Self {
         self.thing(name, Thing::file(bytes))
     }
 
-    pub fn thing(mut self, name: &str, thing: Thing) -> Self {
-        self.things.push((name.to_string(), thing));
+    pub fn thing(mut self, name: impl AsRef<OsStr>, thing: Thing) -> Self {
+        self.things.push((name.as_ref().to_os_string(), thing));
         self
     }
 
@@ -185,13 +188,13 @@ impl Case {
         self
     }
 
-    pub fn writes(mut self, name: &str, bytes: impl Into<Vec<u8>>) -> Self {
-        self.written.push((name.to_string(), Written::Exactly(bytes.into())));
+    pub fn writes(mut self, name: impl AsRef<OsStr>, bytes: impl Into<Vec<u8>>) -> Self {
+        self.written.push((name.as_ref().to_os_string(), Written::Exactly(bytes.into())));
         self
     }
 
     pub fn writes_if_done(mut self, name: &str, complete: fn(&[u8]) -> bool) -> Self {
-        self.written.push((name.to_string(), Written::IfDone(complete)));
+        self.written.push((name.into(), Written::IfDone(complete)));
         self
     }
 
@@ -257,8 +260,7 @@ impl Case {
         let wrong = match &self.said {
             Said::Exactly(due) => difference(due, &ended.err),
             Said::Lines(due) => lines_differ(due, &ended.err),
-            Said::Perhaps(_) if ended.err.is_empty() => None,
-            Said::Perhaps(due) => lines_differ(due, &ended.err),
+            Said::Among { due, others } => lines_not_among(due, others, &ended.err),
             Said::IfNotDone => {
                 (ended.err.is_empty() && ended.end != End::Status(0)).then(|| "is empty, and it failed".to_string())
             }
@@ -268,12 +270,13 @@ impl Case {
 
     /// Whatever the input has, a message is for people: printable, in whole lines, not too long.
     fn unreadable(&self, err: &[u8]) -> Option<String> {
-        // A file's odd name is the user's own.
-        let plain = self.words.iter().flatten().all(|byte| (b' '..=b'~').contains(byte));
+        // Bytes above 127 may be those of a file's name, which is shown in the user's own letters.
+        let plain = self.words.iter().flatten().all(u8::is_ascii);
         if !err.is_empty() && !err.ends_with(b"\n") {
             return Some("does not end with a line's end".to_string());
         }
-        if plain && err.iter().any(|&byte| byte != b'\n' && !(b' '..=b'~').contains(&byte)) {
+        let odd = |byte: u8| byte < b' ' && byte != b'\n' || byte == 127 || plain && byte > 127;
+        if err.iter().any(|&byte| odd(byte)) {
             return Some("has a byte that is not printable".to_string());
         }
         let longest = err.split(|&byte| byte == b'\n').map(<[u8]>::len).max().unwrap_or(0);
@@ -284,7 +287,7 @@ impl Case {
         let mut due = before;
         let mut wrong = Vec::new();
         for (name, written) in &self.written {
-            let name = OsString::from(name);
+            let name = name.clone();
             match written.due(after.get(&name), ended.end == End::Status(0)) {
                 Due::AsItWas => {}
                 Due::Bytes(bytes) => {
@@ -355,7 +358,26 @@ fn lines_differ(due: &[Line], err: &[u8]) -> Option<String> {
     if lines.len() == due.len() && due.iter().zip(&lines).all(|(due, line)| due.fits(line)) {
         return None;
     }
-    let due: Vec<String> = due.iter().map(|line| format!("  {line}")).collect();
-    let due = if due.is_empty() { "  nothing".to_string() } else { due.join("\n") };
-    Some(format!("is not what is due:\n{due}"))
+    Some(format!("is not what is due:\n{}", listed(due)))
+}
+
+fn lines_not_among(due: &[Line], others: &[Line], err: &[u8]) -> Option<String> {
+    let text = String::from_utf8_lossy(err);
+    let lines: Vec<&str> = text.lines().collect();
+    let said = |known: &&Line| lines.iter().filter(|line| known.fits(line)).count();
+    // No two lines that are known here fit the same line.
+    let known: Vec<usize> = due.iter().chain(others).map(|line| said(&line)).collect();
+    let right = known[..due.len()].iter().all(|&number| number == 1)
+        && known[due.len()..].iter().all(|&number| number <= 1)
+        && known.iter().sum::<usize>() == lines.len();
+    (!right).then(|| format!("is not what is due:\n{}", listed(due)))
+}
+
+fn listed(due: &[Line]) -> String {
+    let lines: Vec<String> = due.iter().map(|line| format!("  {line}")).collect();
+    if lines.is_empty() {
+        "  nothing".to_string()
+    } else {
+        lines.join("\n")
+    }
 }

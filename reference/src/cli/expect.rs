@@ -2,10 +2,11 @@
 
 use super::case::{case, Case, Line, Said};
 use super::folder::Thing;
-use super::screen::{screen, Scene, DEFAULTS};
+use super::screen::{is_empty, screen, Scene, DEFAULTS};
 use super::text::{self, drawing, whole_drawing};
 use super::wave::{events, Wave};
 use crate::draw;
+use crate::model::display::WIDEST;
 use crate::model::hex::written_text;
 use crate::model::{image, pulse};
 use crate::parts::Settings;
@@ -26,13 +27,16 @@ pub enum To {
 pub const OUTPUT: &str = "out";
 const OLD: &[u8] = b"what was there before\n";
 
-/// The name of a file in a message.
-fn named(file: &str) -> &str {
+/// The name of a file in a message, and in what `check` prints: control characters are shown by their numbers.
+pub fn named(file: &str) -> String {
     if file == "-" {
-        "<stdin>"
-    } else {
-        file
+        return "<stdin>".to_string();
     }
+    let shown = |letter: char| match letter {
+        '\0'..='\x1F' | '\x7F' => format!("\\x{:02X}", u32::from(letter)),
+        _ => letter.to_string(),
+    };
+    file.chars().map(shown).collect()
 }
 
 /// Hands a file to the case; `-` is standard input.
@@ -61,6 +65,15 @@ fn delivered(case: Case, to: To, bytes: impl Into<Vec<u8>>) -> Case {
     }
 }
 
+/// A message about a drawing, a screen or events. A byte order mark spoils the first line, so it is the one told of.
+fn hinted(line: Line, bytes: &[u8]) -> Line {
+    if bytes.starts_with(text::BYTE_ORDER_MARK) {
+        line.naming(text::MARK_NAMED)
+    } else {
+        line
+    }
+}
+
 fn with_lines(case: Case, lines: Vec<Line>) -> Case {
     lines.into_iter().fold(case, Case::says)
 }
@@ -72,18 +85,18 @@ pub fn check(name: &str, whole: bool, texts: &[(&str, Option<&[u8]>)]) -> Case {
     for &(file, bytes) in texts {
         case = case.word(file);
         let Some(bytes) = bytes else {
-            case = case.says(Line::exactly(format!("{file}: cannot be read: No such file or directory")));
+            case = case.says(Line::exactly(format!("{}: cannot be read: No such file or directory", named(file))));
             status = 2;
             continue;
         };
         case = given(case, file, bytes);
-        match text::read(named(file), bytes) {
+        match text::read(&named(file), bytes) {
             Ok(good) if whole && !good.not_given.is_empty() => {
-                case = with_lines(case, text::partial(named(file), &good, "").into_iter().collect());
+                case = with_lines(case, text::partial(&named(file), &good, "").into_iter().collect());
                 status = status.max(1);
             }
             Ok(good) => {
-                case = with_lines(case, text::warnings(named(file), &good));
+                case = with_lines(case, text::warnings(&named(file), &good));
                 out += &format!("{}: cells 62 bytes {}\n", named(file), good.count);
             }
             Err(line) => {
@@ -116,29 +129,46 @@ fn listed(cells: &[usize]) -> String {
     runs(cells).into_iter().map(run).collect::<Vec<String>>().join(", ")
 }
 
-fn missing(file: &str, cells: &[usize]) -> Vec<Line> {
-    if cells.is_empty() {
-        return Vec::new();
-    }
+/// What is said of cells that are not drawn: a warning, or where every cell is wanted a fault.
+fn missing(file: &str, cells: &[usize], whole: bool) -> Line {
     let number = cells.len();
-    // Whether one cell is told in the plural, and two neighbours as a run, is left open.
-    if number == 1 || runs(cells).iter().any(|(first, last)| first + 1 == *last) {
-        return vec![Line::new(format!("{file}: warning: {number} cell"), "")];
+    let what = match (number, whole) {
+        (1, false) => "warning: 1 cell is not drawn and is empty".to_string(),
+        (1, true) => "1 cell is not drawn".to_string(),
+        (_, false) => format!("warning: {number} cells are not drawn and are empty"),
+        (_, true) => format!("{number} cells are not drawn"),
+    };
+    // Whether two neighbours are told as a run is left open.
+    if runs(cells).iter().any(|(first, last)| first + 1 == *last) {
+        return Line::new(format!("{file}: {what}: "), "");
     }
-    vec![Line::exactly(format!("{file}: warning: {number} cells are not drawn and are empty: {}", listed(cells)))]
+    Line::exactly(format!("{file}: {what}: {}", listed(cells)))
 }
 
 /// `font`.
 pub fn font(name: &str, file: &str, bytes: &[u8], to: To) -> Case {
-    let case = told(given(case(name, "font").word(file), file, bytes), to);
+    font_of(case(name, "font"), false, file, bytes, to)
+}
+
+/// `font --whole`.
+pub fn whole_font(name: &str, file: &str, bytes: &[u8], to: To) -> Case {
+    font_of(case(name, "font --whole"), true, file, bytes, to)
+}
+
+fn font_of(case: Case, whole: bool, file: &str, bytes: &[u8], to: To) -> Case {
+    let case = told(given(case.word(file), file, bytes), to);
     match draw::drawn(bytes) {
         Ok(drawn) => {
-            let case = with_lines(case, missing(named(file), &drawn.missing));
+            let said = (!drawn.missing.is_empty()).then(|| missing(&named(file), &drawn.missing, whole));
+            let case = with_lines(case, said.iter().cloned().collect());
+            if whole && said.is_some() {
+                return case.status(1);
+            }
             delivered(case, to, written_text(&image::of_font(&drawn.font)))
         }
         Err(complaint) => {
             let line = complaint.line.map_or(String::new(), |line| format!("{line}:"));
-            case.status(1).says(Line::new(format!("{}:{line} ", named(file)), ""))
+            case.status(1).says(hinted(Line::new(format!("{}:{line} ", named(file)), ""), bytes))
         }
     }
 }
@@ -147,9 +177,9 @@ pub fn font(name: &str, file: &str, bytes: &[u8], to: To) -> Case {
 pub fn show(name: &str, file: &str, bytes: &[u8], cells: &[usize], to: To) -> Case {
     let case = told(given(case(name, "show").word(file), file, bytes), to);
     let case = cells.iter().fold(case, |case, cell| case.word(cell.to_string()));
-    match text::read(named(file), bytes) {
+    match text::read(&named(file), bytes) {
         Ok(good) => {
-            let case = with_lines(case, text::warnings(named(file), &good));
+            let case = with_lines(case, text::warnings(&named(file), &good));
             let drawing = if cells.is_empty() { whole_drawing(&good.font) } else { drawing(&good.font, cells) };
             delivered(case, to, drawing)
         }
@@ -198,24 +228,42 @@ impl<'a> Paint<'a> {
 
     pub fn case(&self, name: &str) -> Case {
         let case = self.bare(name);
-        let (good, words) = match (text::read(named(self.font.0), self.font.1), screen(self.screen.1)) {
+        let (good, words) = match (text::read(&named(self.font.0), self.font.1), screen(self.screen.1)) {
             (Ok(good), Ok(words)) => (good, words),
             (Err(line), Ok(_)) => return case.status(1).says(line),
             (Ok(_), Err(line)) => {
                 // Whether the font's text is warned of before that is left open.
-                let line = Line::new(format!("{}:{line}: ", named(self.screen.0)), "");
+                let line = hinted(Line::new(format!("{}:{line}: ", named(self.screen.0)), ""), self.screen.1);
                 let case = case.status(1);
                 return if good_and_whole(self.font.1) { case.says(line) } else { case.said(Said::IfNotDone) };
             }
             (Err(_), Err(_)) => return case.status(1).said(Said::IfNotDone),
         };
-        let warnings = text::warnings(named(self.font.0), &good);
-        let case = if warnings.is_empty() { case } else { case.said(Said::Perhaps(warnings)) };
+        // Whether the font's text is warned of is left open here too.
+        let others = text::warnings(&named(self.font.0), &good);
         let &Paint { settings, frame, width, lines, .. } = self;
-        let picture = Scene { words, font: good.font, settings, frame, width, lines }.picture();
-        let picture = picture.expect("settings that are refused are cases by hand");
+        let scene = Scene { words, font: good.font, settings, frame, width, lines };
+        let due = self.warnings(&scene);
+        let case = if others.is_empty() { with_lines(case, due) } else { case.said(Said::Among { due, others }) };
+        let picture = scene.picture().expect("settings that are refused are cases by hand");
         let text = self.text || self.to == To::Nowhere;
         delivered(case, self.to, if text { picture.text() } else { picture.ppm() })
+    }
+
+    /// What is said of a screen that is painted all the same: nothing is there, or it does not fit.
+    fn warnings(&self, scene: &Scene) -> Vec<Line> {
+        let name = named(self.screen.0);
+        if is_empty(self.screen.1) {
+            return vec![Line::exactly(format!("{name}: warning: no word is given: the screen is empty"))];
+        }
+        let (right, bottom) = scene.edges();
+        let cut = (self.width.is_none() && right > WIDEST) || (self.lines.is_none() && bottom > WIDEST);
+        let line = || {
+            Line::exactly(format!(
+                "{name}: warning: the cells reach {right} dots by {bottom} lines; at most 1024 by 1024 are painted"
+            ))
+        };
+        cut.then(line).into_iter().collect()
     }
 
     /// A setting that the library refuses.
@@ -246,9 +294,16 @@ pub fn play(name: &str, file: &str, bytes: &[u8], to: To) -> Case {
                 return case.said(Said::IfNotDone);
             };
             let end = if fault.refused { " (refused 14 at 0)" } else { "" };
-            return case.says(Line::new(format!("{}:{}: ", named(file), fault.line), end));
+            return case.says(hinted(Line::new(format!("{}:{}: ", named(file), fault.line), end), bytes));
         }
     };
+    if wave.is_empty() {
+        let case = case.says(Line::exactly(format!("{}: warning: no clock is played", named(file))));
+        return match to {
+            To::Nowhere => case,
+            _ => delivered(case, to, wave.vcd()),
+        };
+    }
     match to {
         To::Nowhere => case.out(wave.lines()),
         To::Dash => case.out(wave.vcd()).said(Said::Exactly(wave.lines().into_bytes())),

@@ -18,6 +18,10 @@ pub enum Thing {
     Link {
         to: String,
     },
+    /// One more name of a file that is there.
+    Name {
+        of: String,
+    },
     Folder,
 }
 
@@ -65,7 +69,7 @@ impl Folder {
         self.kept = true;
     }
 
-    pub fn put(&self, name: &str, thing: &Thing) -> io::Result<()> {
+    pub fn put(&self, name: impl AsRef<Path>, thing: &Thing) -> io::Result<()> {
         let path = self.path.join(name);
         match thing {
             Thing::File { bytes, mode } => {
@@ -76,6 +80,7 @@ impl Folder {
                 }
             }
             Thing::Link { to } => symlink(to, &path),
+            Thing::Name { of } => fs::hard_link(self.path.join(of), &path),
             Thing::Folder => fs::create_dir(&path),
         }
     }

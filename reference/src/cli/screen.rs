@@ -41,6 +41,11 @@ fn display_word(line: &[&[u8]]) -> Option<u32> {
     }
 }
 
+/// Whether a screen or a file of events says nothing at all.
+pub fn is_empty(text: &[u8]) -> bool {
+    lines(text).into_iter().all(|line| words(without_comment(line)).is_empty())
+}
+
 /// The 64 words of a screen, or the number of the line that is wrong.
 pub fn screen(text: &[u8]) -> Result<Vec<u16>, usize> {
     let mut screen = Vec::new();
@@ -86,6 +91,14 @@ impl Scene {
             let (right, bottom) = (cell.left + 12 * cell.size, cell.top + 18 * cell.size);
             (width.max(right.min(WIDEST)), lines.max(bottom.min(WIDEST)))
         })
+    }
+
+    /// The greatest right edge and the greatest bottom edge of a cell, seen or not.
+    pub fn edges(&self) -> (u32, u32) {
+        let cells = cells(&self.words, &self.settings);
+        let right = cells.iter().map(|cell| cell.left + 12 * cell.size).max();
+        let bottom = cells.iter().map(|cell| cell.top + 18 * cell.size).max();
+        (right.unwrap_or(0), bottom.unwrap_or(0))
     }
 
     pub fn picture(&self) -> Result<Picture, Refusal> {
@@ -201,6 +214,19 @@ mod tests {
         // Rows of size 4 with 12 lines between them: the one at line 954 is cut, the one at 1038 is not seen.
         assert_eq!(size(&[[1007; 12].as_slice(), &[14]].concat(), 0, 0), (48, 1024));
         assert_eq!(size(&[[1007; 13].as_slice(), &[14]].concat(), 0, 0), (1, 1));
+    }
+
+    #[test]
+    fn edges_are_those_of_every_cell() {
+        let edges = |words: &[u16], h, v| scene(words, Settings { h, v, ..DEFAULTS }).edges();
+        assert_eq!(edges(&[], 9, 9), (0, 0));
+        assert_eq!(edges(&[997], 9, 9), (0, 0));
+        assert_eq!(edges(&[14], 2, 3), (20, 30));
+        assert_eq!(edges(&[14, END, 14], 0, 0), (12, 18));
+        // The widest row is not the lowest.
+        assert_eq!(edges(&[[1004].as_slice(), &[14; 17], &[992, 14]].concat(), 63, 0), (252 + 17 * 48, 90 + 18));
+        // A row that starts below the last line counts, in both directions.
+        assert_eq!(edges(&[[14].as_slice(), &[1007; 13], &[14, 14]].concat(), 0, 1), (96, 4 + 18 + 12 + 12 * 84 + 72));
     }
 
     #[test]

@@ -9,6 +9,10 @@ use crate::model::Refusal;
 /// The program reads no further: so many bytes are enough to know that a text is too long.
 const MOST_READ: usize = hex::LONGEST_TEXT + 1;
 
+/// What some editors put before a text, and what a message about it has to name.
+pub const BYTE_ORDER_MARK: &[u8] = b"\xEF\xBB\xBF";
+pub const MARK_NAMED: &str = "byte order mark";
+
 /// A text that the library accepts.
 pub struct Good {
     pub font: Vec<u16>,
@@ -110,6 +114,9 @@ fn refusal_line(name: &str, text: &[u8], refusal: Refusal) -> Line {
         12 if at == text.len() => (last_line(text), false, vec![":00000001FF".to_string()]),
         12 => (line_of(text, at), false, Vec::new()),
         13 => (givers(text)[at].expect("a byte that is not given is FF"), true, image_names(at)),
+        7 if at == 0 && text.starts_with(BYTE_ORDER_MARK) => (1, true, vec![MARK_NAMED.to_string()]),
+        // An image has a hint of its own.
+        7 if at == 0 && text.len() == IMAGE_BYTES && text[0] != b':' => (1, true, Vec::new()),
         _ => {
             let body = lines(&text[at..]).first().copied().unwrap_or_default();
             (line_of(text, at), true, record_names(number, body, &text[..at]))
@@ -143,10 +150,12 @@ fn holder(address: usize) -> String {
 /// What is said of an accepted text that does not give every byte.
 pub fn partial(name: &str, good: &Good, word: &str) -> Option<Line> {
     let first = *good.not_given.first()?;
-    let number = good.not_given.len();
+    let what = match good.not_given.len() {
+        1 => "1 of 8192 bytes is not given; it counts".to_string(),
+        number => format!("{number} of 8192 bytes are not given; they count"),
+    };
     Some(Line::exactly(format!(
-        "{name}: {word}{number} of 8192 bytes are not given; they count as FF, which is lit dots in a row: \
-         first at address {first:04X} ({})",
+        "{name}: {word}{what} as FF, which is lit dots in a row: first at address {first:04X} ({})",
         holder(first)
     )))
 }
@@ -236,6 +245,9 @@ mod tests {
         let text = written_text(&[0xFF; IMAGE_BYTES]);
         assert_eq!(said(text.as_bytes()), "whole 8192");
         let without = |record: usize| [&text[..44 * record], &text[44 * (record + 1)..]].concat();
+        let one = [&text[..44 * 511], ":0F1FF000FFFFFFFFFFFFFFFFFFFFFFFFFFFFFFF1\n:00000001FF\n"].concat();
+        let least = "F: 1 of 8192 bytes is not given; it counts as FF, which is lit dots in a row: first at address";
+        assert_eq!(said(one.as_bytes()), format!("{least} 1FFF (no row's)"));
         let line = |place| format!("F: 16 of 8192 bytes are not given; {lit} {place}");
         assert_eq!(said(without(255).as_bytes()), line("0FF0 (no row's)"));
         assert_eq!(said(without(258).as_bytes()), line("1020 (cell 1 row 0)"));

@@ -107,12 +107,21 @@ impl Wave {
         self.clocks.push((level[0], record.in_force));
     }
 
+    /// Whether no clock is played.
+    pub fn is_empty(&self) -> bool {
+        self.clocks.is_empty()
+    }
+
     /// The lines about the periods.
     pub fn lines(&self) -> String {
         let mut lines = String::new();
         for (index, Period { pair: Pair { coarse, fine }, clocks, high }) in self.periods.iter().enumerate() {
             let due = 128 * u32::from(*coarse) + u32::from(*fine);
-            let cut = if *clocks < 16384 { format!(" in {clocks} clocks") } else { String::new() };
+            let cut = match clocks {
+                1 => " in 1 clock".to_string(),
+                2..=16383 => format!(" in {clocks} clocks"),
+                _ => String::new(),
+            };
             let _ = writeln!(lines, "period {}: coarse {coarse} fine {fine} T {due} high {high}{cut}", index + 1);
         }
         lines
@@ -215,7 +224,7 @@ mod tests {
         // A reset ends a period, and the next begins with the pair of reset.
         assert_eq!(
             wave("high 2\nplay 1\nreset\nplay 1\nhigh 0xFF\nplay 16383\nplay 2").lines(),
-            "period 1: coarse 2 fine 0 T 256 high 1 in 1 clocks\n\
+            "period 1: coarse 2 fine 0 T 256 high 1 in 1 clock\n\
              period 2: coarse 0 fine 0 T 0 high 0\n\
              period 3: coarse 127 fine 0 T 16256 high 2 in 2 clocks\n"
         );

@@ -2,7 +2,7 @@
 
 use super::{with_cr_lf, END_RECORD, SAMPLE_DRAWING, SAMPLE_TEXT};
 use crate::cli::case::{Case, Line};
-use crate::cli::expect::{font, show, To};
+use crate::cli::expect::{font, show, whole_font, To};
 use crate::cli::text;
 
 fn cell(heading: &str, row: &str) -> String {
@@ -44,6 +44,46 @@ fn good() -> Vec<Case> {
 fn one_missing() -> Case {
     let drawing: String = (0..61).map(|number| cell(&format!("{number:02}"), "............")).collect();
     font("one cell missing", "d.txt", drawing.as_bytes(), To::Nowhere)
+}
+
+/// Drawings that are to have every cell.
+fn whole() -> Vec<Case> {
+    let without = |missing: &[usize]| -> String {
+        let cells = (0..62).filter(|number| !missing.contains(number));
+        cells.map(|number| cell(&number.to_string(), "#..........#")).collect()
+    };
+    let all_but_one: Vec<usize> = (0..61).collect();
+    let from_40: Vec<usize> = [3, 17].into_iter().chain(40..62).collect();
+    let mut cases = Vec::new();
+    for (name, missing) in [
+        ("no cell", &[][..]),
+        ("the first cell", &[0]),
+        ("a cell", &[5]),
+        ("the last cell", &[61]),
+        ("two cells", &[3, 17]),
+        ("two neighbours", &[3, 4]),
+        ("three neighbours", &[0, 1, 2]),
+        ("cells and a run", &from_40),
+        ("all but one", &all_but_one),
+    ] {
+        let drawing = without(missing);
+        cases.push(font(&format!("{name} left out"), "d.txt", drawing.as_bytes(), To::Old));
+        cases.push(whole_font(&format!("{name} left out of a whole drawing"), "d.txt", drawing.as_bytes(), To::Old));
+    }
+    let (some, all) = (without(&[1, 9]), without(&[]));
+    let typed = |case: Case, words: &str| Case { words: crate::cli::case::case("", words).words, ..case };
+    cases.extend([
+        whole_font("cells left out, to standard output", "d.txt", some.as_bytes(), To::Nowhere),
+        whole_font("cells left out, to -", "-", some.as_bytes(), To::Dash),
+        whole_font("cells left out, to a new file", "d.txt", some.as_bytes(), To::New),
+        whole_font("the sample, to be whole", "d.txt", SAMPLE_DRAWING, To::New),
+        whole_font("a whole drawing from standard input", "-", all.as_bytes(), To::Nowhere),
+        whole_font("an empty drawing, to be whole", "d.txt", b"", To::Old),
+        whole_font("a fault in a drawing that is to be whole", "d.txt", b"cell 00\n\ncell 01\n", To::Old),
+        typed(whole_font("--whole last", "d.txt", some.as_bytes(), To::Old), "font d.txt -o out --whole"),
+        typed(whole_font("--whole between", "d.txt", all.as_bytes(), To::Old), "font -o out --whole -- d.txt"),
+    ]);
+    cases
 }
 
 fn faults() -> Vec<Case> {
@@ -124,5 +164,5 @@ fn shown() -> Vec<Case> {
 }
 
 pub fn all() -> Vec<Case> {
-    [good(), faults(), shown()].concat()
+    [good(), whole(), faults(), shown()].concat()
 }

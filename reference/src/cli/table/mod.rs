@@ -2,6 +2,9 @@
 
 mod check;
 mod drawings;
+mod hints;
+mod inputs;
+mod names;
 mod output;
 mod paint;
 mod play;
@@ -14,7 +17,8 @@ pub const SAMPLE_DRAWING: &[u8] = include_bytes!("../../../../samples/font.txt")
 const END_RECORD: &[u8] = b":00000001FF\n";
 
 pub fn all() -> Vec<Case> {
-    [usage::all(), check::all(), drawings::all(), paint::all(), play::all(), output::all()].concat()
+    let commands = [usage::all(), check::all(), drawings::all(), paint::all(), play::all()];
+    [commands.concat(), output::all(), inputs::all(), names::all(), hints::all()].concat()
 }
 
 fn with_cr_lf(text: &[u8]) -> Vec<u8> {

@@ -3,7 +3,6 @@
 use super::{SAMPLE_DRAWING, SAMPLE_TEXT};
 use crate::cli::case::{case, Case, Line, Said};
 use crate::cli::folder::Thing;
-use crate::cli::text;
 
 fn link(to: &str) -> Thing {
     Thing::Link { to: to.to_string() }
@@ -18,7 +17,6 @@ fn mode(mode: u32) -> Thing {
 }
 
 fn places() -> Vec<Case> {
-    let drawing = text::read("", SAMPLE_TEXT).map(|good| text::whole_drawing(&good.font)).unwrap_or_default();
     vec![
         font("a new file", "new").writes("new", SAMPLE_TEXT),
         font("a file with permissions of its own", "old").thing("old", mode(0o600)).writes("old", SAMPLE_TEXT),
@@ -44,12 +42,8 @@ fn places() -> Vec<Case> {
             .writes("folder/new", SAMPLE_TEXT),
         font("a file in a folder", "folder/new").thing("folder", Thing::Folder).writes("folder/new", SAMPLE_TEXT),
         font("a path", "./new").writes("new", SAMPLE_TEXT),
-        font("the input", "d.txt").writes("d.txt", SAMPLE_TEXT),
         font("a device", "/dev/null"),
         font("standard output by its path", "/dev/stdout").out(SAMPLE_TEXT),
-        case("output: the text shown over itself", "show f.hex -o f.hex")
-            .file("f.hex", SAMPLE_TEXT)
-            .writes("f.hex", drawing),
         font("a name of 200 characters", &"n".repeat(200)).writes(&"n".repeat(200), SAMPLE_TEXT),
         font("a name of 255 characters", &"n".repeat(255)).writes(&"n".repeat(255), SAMPLE_TEXT),
     ]
@@ -78,7 +72,8 @@ fn trouble() -> Vec<Case> {
 fn full() -> Vec<Case> {
     let failed = |words: &str| {
         let case = case(&format!("full: {words}"), words).full().status(2).said(Said::IfNotDone);
-        case.file("d.txt", SAMPLE_DRAWING).file("f.hex", SAMPLE_TEXT).file("s", "14\n").file("e", "high 3\nplay 9\n")
+        let case = case.file("d.txt", SAMPLE_DRAWING).file("f.hex", SAMPLE_TEXT).file("old", "as it was\n");
+        case.file("s", "14\n").file("e", "high 3\nplay 9\n")
     };
     [
         "help",
@@ -95,7 +90,7 @@ fn full() -> Vec<Case> {
         "play e -o -",
         // The periods cannot be printed, so the work is not whole and the wave is not written.
         "play e -o new",
-        "play e -o e",
+        "play e -o old",
         "pulse 1 2",
     ]
     .iter()

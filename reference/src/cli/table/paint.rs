@@ -250,6 +250,90 @@ fn fonts() -> Vec<Case> {
     ]
 }
 
+/// Screens whose cells reach to the last dot or line and further.
+fn reaches() -> Vec<Case> {
+    let row = |size: u32, cells: usize| format!("return {size} 0\n{}", "14\n".repeat(cells));
+    // 64 + 20 * 48 is 1024, and 4 more are too many; 18 + 18 + 13 * 72 + 52 is 1024 as well.
+    let wide = row(4, 20);
+    let high = format!("14\n{}{}", row(1, 1), row(4, 1).repeat(13));
+    let spaces = wide.replace("14\n", "space red\n");
+    let both = format!("{wide}{}", row(4, 1).repeat(14));
+    let lowest = format!("14\n{}{}", "return 4 12\n".repeat(16), "14\n".repeat(22));
+    let ended = format!("14\nend\n{wide}{}", row(4, 1).repeat(14));
+    let returns = "14\n".to_string() + &"return 4 12\n".repeat(63);
+    let made = |name: &str, text: &str, words: &str, change: &dyn Fn(&mut Paint)| {
+        let mut paint = Paint { words: words.to_string(), ..Paint::new(text.as_bytes(), SAMPLE_TEXT) };
+        change(&mut paint);
+        paint.case(&format!("reach: {name} {words}"))
+    };
+    let at = |h, v| move |paint: &mut Paint| paint.settings = Settings { h, v, ..paint.settings };
+    let sized = |width, lines| {
+        move |paint: &mut Paint| {
+            paint.settings = Settings { h: 17, v: 13, ..paint.settings };
+            paint.width = width;
+            paint.lines = lines;
+        }
+    };
+    let place = "--h 17 --v 13";
+    let mut cases = vec![
+        made("to the last dot", &wide, "--h 16", &at(16, 0)),
+        made("past the last dot", &wide, "--h 17", &at(17, 0)),
+        made("spaces past the last dot", &spaces, "--h 17", &at(17, 0)),
+        made("far past the last dot", &row(4, 63), "--h 63", &at(63, 0)),
+        made("to the last line", &high, "--v 13", &at(0, 13)),
+        made("past the last line", &high, "--v 14", &at(0, 14)),
+        made("far past the last line", &row(4, 1).repeat(32), "--v 63", &at(0, 63)),
+        made("past both", &both, "--h 17", &at(17, 0)),
+        made("past both", &both, place, &at(17, 13)),
+        made("a row that is not seen", &lowest, "", &at(0, 0)),
+        made("a row that is not seen", &lowest, "--h 63", &at(63, 0)),
+        made("cells after an end", &ended, "--h 63 --v 63", &at(63, 63)),
+        made("returns alone", &returns, "--v 63", &at(0, 63)),
+    ];
+    for (name, text) in [("wide", &wide), ("both", &both), ("not seen", &lowest)] {
+        cases.push(made(name, text, &format!("{place} --width 9"), &sized(Some(9), None)));
+        cases.push(made(name, text, &format!("{place} --width 1024"), &sized(Some(1024), None)));
+        cases.push(made(name, text, &format!("{place} --lines 9"), &sized(None, Some(9))));
+        cases.push(made(name, text, &format!("{place} --lines 1024 --width 3"), &sized(Some(3), Some(1024))));
+    }
+    for (words, mode, on) in [
+        ("--mode 0 --h 17", 0, true),
+        ("--mode 1 --h 17", 1, true),
+        ("--mode 3 --h 17", 3, true),
+        ("--off --h 17", 2, false),
+    ] {
+        cases.push(made("as always", &wide, words, &|paint| {
+            paint.settings = Settings { mode, on, h: 17, ..paint.settings };
+        }));
+    }
+    for (name, to) in [("to -", To::Dash), ("to a new file", To::New), ("over a file", To::Old)] {
+        let screen = ("-", both.as_bytes());
+        cases.push(Paint { screen, to, ..paint() }.case(&format!("reach: from standard input {name}")));
+    }
+    let partial = Paint { font: ("font.hex", END_RECORD), ..Paint::new(both.as_bytes(), SAMPLE_TEXT) };
+    cases.push(partial.case("reach: with a partial font"));
+    cases
+}
+
+/// Screens without a word.
+fn nothing() -> Vec<Case> {
+    let with = |name: &str, text: &'static [u8], to: To| {
+        let paint = Paint { screen: ("screen", text), to, ..paint() };
+        paint.case(&format!("nothing: {name}"))
+    };
+    let sized = Paint { width: Some(3), lines: Some(2), words: "--width 3 --lines 2".to_string(), ..paint() };
+    vec![
+        with("to a new file", b"", To::New),
+        with("comments over a file", b"\n\n; 14\n#end", To::Old),
+        with("blanks to -", b" \t\r\n\t", To::Dash),
+        with("an end is a word", b"end", To::New),
+        with("a word past the end", b"end\n14\n", To::New),
+        Paint { screen: ("-", b""), ..paint() }.case("nothing: from standard input"),
+        Paint { screen: ("screen", b""), ..sized }.case("nothing: with a size"),
+        Paint { screen: ("screen", b""), font: ("font.hex", END_RECORD), ..paint() }.case("nothing: a partial font"),
+    ]
+}
+
 pub fn all() -> Vec<Case> {
-    [language(), faults(), settings(), refused(), forms(), fonts()].concat()
+    [language(), faults(), settings(), refused(), forms(), fonts(), reaches(), nothing()].concat()
 }

@@ -9,11 +9,14 @@ fn played(name: &str, events: &str) -> Vec<Case> {
 }
 
 fn good() -> Vec<Case> {
-    let files: [(&str, &str); 21] = [
+    let files: [(&str, &str); 24] = [
         ("nothing", ""),
         ("comments only", "; nothing\n\n# nothing\n \t\n"),
         ("no clock", "low 3\nhigh 1\nplay 0\nreset\n"),
+        ("plays of no clock", "play 0\nreset\nplay 0x0\n"),
         ("a clock", "play 1\n"),
+        ("a clock and a period", "play 1\nreset\nplay 16384\nplay 1\n"),
+        ("a clock less than a period", "high 3\nplay 16383\nreset\nplay 1\nreset\nplay 2"),
         ("a high clock", "high 1\nplay 1\n"),
         ("a period", "low 3\nhigh 1\nplay 16384\n"),
         ("a period and part of one", "low 3\nhigh 1\nplay 16384\nplay 5000\n"),
@@ -42,6 +45,8 @@ fn good() -> Vec<Case> {
         ("from standard input to a file", "-", To::New),
     ] {
         cases.push(play(&format!("play with CR LF {name}"), file, tune, to));
+        cases.push(play(&format!("play nothing {name}"), file, b"low 3\nplay 0\n", to));
+        cases.push(play(&format!("play one clock {name}"), file, b"play 1", to));
     }
     cases
 }

@@ -7,7 +7,7 @@ use crate::cli::expect::{check, misused, Paint};
 /// The commands with the options that their help has to name.
 const COMMANDS: &[(&str, &[&str])] = &[
     ("check", &["--whole"]),
-    ("font", &["-o"]),
+    ("font", &["--whole", "-o"]),
     ("show", &["-o"]),
     (
         "paint",
@@ -36,13 +36,75 @@ fn help() -> Vec<Case> {
     let mut cases = vec![
         case("help", "help").out_naming(&names),
         case("help as an option", "--help").out_naming(&names),
+        case("help as a short option", "-h").out_naming(&names),
         case("version", "--version").out("dirgeflint 1.0\n"),
     ];
     for (command, options) in COMMANDS {
         let names: Vec<&str> = options.iter().copied().chain([*command]).collect();
         cases.push(case(&format!("help on {command}"), &format!("help {command}")).out_naming(&names));
-        cases.push(case(&format!("help by {command} --help"), &format!("{command} --help")).out_naming(&names));
+        for way in ["--help", "-h"] {
+            let by = |words: &str| case(&format!("help by {words}"), words).file("f.hex", "x").out_naming(&names);
+            cases.push(by(&format!("{command} {way}")));
+            cases.push(by(&format!("{command} f.hex {way}")));
+            cases.push(by(&format!("{command} {way} f.hex")));
+        }
     }
+    cases
+}
+
+/// A value that begins with a dash is taken for an option that stands where a value is due.
+fn dashes() -> Vec<Case> {
+    let lacking = |words: &str| {
+        let case = wrong(words);
+        let Said::Lines(lines) = &case.said else {
+            return case;
+        };
+        let lines = lines.iter().map(|line| line.clone().naming("needs a value")).collect();
+        Case { name: format!("a value is due: {words}"), ..case.said(Said::Lines(lines)) }
+    };
+    let mut cases: Vec<Case> = [
+        "font d.txt -o --whole",
+        "font d.txt -o -x",
+        "font -o -- d.txt",
+        "show f.hex -o -1",
+        "show -o -o f.hex",
+        "paint s --font --mode",
+        "paint s --font --mode 2",
+        "paint s --font -x",
+        "paint s --font -- f.hex",
+        "paint s --font f.hex -o --text",
+        "paint s --font f.hex --mode --off",
+        "paint s --font f.hex --mode -1",
+        "paint s --font f.hex --colour -red",
+        "paint s --font f.hex --h -1",
+        "paint s --font f.hex --v --h=3",
+        "paint s --font f.hex --ratio --",
+        "paint s --font f.hex --frequency -x",
+        "paint s --font f.hex --frame -1",
+        "paint s --font f.hex --width --lines",
+        "paint s --font f.hex --lines ---",
+        "play e -o --",
+        "play e -o --o",
+    ]
+    .iter()
+    .map(|words| lacking(words))
+    .collect();
+    let screen = b"character 1 red\n";
+    let named = |file: &str, words: &str| {
+        let font = (file, SAMPLE_TEXT);
+        let case = Paint { font, ..Paint::new(screen, SAMPLE_TEXT) }.case(&format!("a value with a dash: {words}"));
+        Case { words: case_words(words), ..case }
+    };
+    cases.extend([
+        named("-x", "paint screen --font=-x"),
+        named("--mode", "paint --font=--mode screen"),
+        named("--", "paint --font=-- screen"),
+        named("-", "paint screen --font -"),
+        named("-", "paint screen --font=-"),
+        wrong("paint s --font f.hex --mode -"),
+        wrong("paint s --font f.hex --width=-"),
+        wrong("paint s --font f.hex --colour=-red"),
+    ]);
     cases
 }
 
@@ -148,6 +210,7 @@ pub fn all() -> Vec<Case> {
     let odd = misused(case("an odd option", "check").word(b"--\x01\x1b\xe9"), "check");
     cases.extend([long, odd]);
     cases.extend(orders());
+    cases.extend(dashes());
     cases
 }
 
@@ -169,6 +232,7 @@ fn orders() -> Vec<Case> {
         dashed("a file that looks like an option", "check -- --whole", "--whole"),
         dashed("a file that begins with a dash", "check -- -a.hex", "-a.hex"),
         dashed("an option before that", "check --whole -- --", "--"),
+        dashed("a file that looks like a call for help", "check -- -h", "-h"),
         case("an option with an empty value", "paint screen --font=")
             .file("screen", &screen[..])
             .status(2)

@@ -1,0 +1,115 @@
+//! An output that is one of the inputs: by its name, by another spelling, by a link of either sort.
+
+use super::{SAMPLE_DRAWING, SAMPLE_TEXT};
+use crate::cli::case::{case, Case, Line};
+use crate::cli::folder::Thing;
+
+const EVENTS: &[u8] = b"high 1\nplay 9\n";
+const SCREEN: &[u8] = b"character 1 red\n";
+
+fn link(to: &str) -> Thing {
+    Thing::Link { to: to.to_string() }
+}
+
+fn name_of(of: &str) -> Thing {
+    Thing::Name { of: of.to_string() }
+}
+
+/// A run with every input there, and a folder to walk through.
+fn given(words: &str) -> Case {
+    let case = case(&format!("an output: {words}"), words).file("d.txt", SAMPLE_DRAWING).file("f.hex", SAMPLE_TEXT);
+    case.file("s", SCREEN).file("e", EVENTS).thing("folder", Thing::Folder)
+}
+
+fn refused(case: Case, output: &str) -> Case {
+    let command = String::from_utf8_lossy(&case.words[0]).into_owned();
+    case.status(2).says(Line::exactly(format!(
+        "dirgeflint: -o {output} is also an input: name another file; try: dirgeflint help {command}"
+    )))
+}
+
+/// Each command with the input that its output is to be.
+const RUNS: &[(&str, &str)] = &[
+    ("font d.txt", "d.txt"),
+    ("font --whole d.txt", "d.txt"),
+    ("show f.hex", "f.hex"),
+    ("show f.hex 3 4", "f.hex"),
+    ("paint s --font f.hex", "s"),
+    ("paint s --font f.hex --text", "s"),
+    ("paint s --font f.hex --off", "f.hex"),
+    ("paint s --font=f.hex --text", "f.hex"),
+    ("play e", "e"),
+];
+
+fn by_every_way() -> Vec<Case> {
+    let mut cases = Vec::new();
+    for (words, input) in RUNS {
+        let to = |output: &str| refused(given(&format!("{words} -o {output}")), output);
+        cases.push(to(input));
+        cases.push(to(&format!("./{input}")));
+        cases.push(to(&format!("folder/..//{input}")));
+        cases.push(to("link").thing("link", link(input)));
+        cases.push(to("far").thing("link", link(&format!("./{input}"))).thing("far", link("link")));
+        cases.push(to(&format!("around/{input}")).thing("around", link(".")));
+        cases.push(to("name").thing("name", name_of(input)));
+        cases.push(to("to-name").thing("name", name_of(input)).thing("to-name", link("name")));
+        cases.push(to("folder/name").thing("folder/name", name_of(input)));
+    }
+    cases
+}
+
+/// The input by another name, the output by its own.
+fn by_other_inputs() -> Vec<Case> {
+    let cases = [
+        ("font link -o d.txt", "d.txt", link("d.txt")),
+        ("font link -o ./link", "d.txt", link("d.txt")),
+        ("show link -o f.hex", "f.hex", name_of("f.hex")),
+        ("paint link --font f.hex -o s", "s", link("s")),
+        ("paint s --font link -o f.hex", "f.hex", name_of("f.hex")),
+        ("play link -o e", "e", name_of("e")),
+        ("play -o e -- link", "e", link("e")),
+        ("play -o e ./e", "e", link("e")),
+    ];
+    let made = cases.into_iter().map(|(words, _, thing)| {
+        let output = words.split(' ').skip_while(|word| *word != "-o").nth(1).unwrap_or_default();
+        refused(given(words).thing("link", thing), output)
+    });
+    made.collect()
+}
+
+/// It is looked at before any file is read: what the files have does not matter, nor whether the others are there.
+fn before_all_else() -> Vec<Case> {
+    let with = |words: &str, output: &str, file: &str, bytes: &str| {
+        refused(case(&format!("an output: {words}, first of all"), words).file(file, bytes), output)
+    };
+    vec![
+        with("font d.txt -o d.txt", "d.txt", "d.txt", "cell 62\n"),
+        with("show f.hex -o f.hex", "f.hex", "f.hex", ":00000001FE\n"),
+        with("paint s --font none -o s", "s", "s", "stop\n"),
+        with("paint none --font f.hex -o f.hex", "f.hex", "f.hex", ""),
+        with("play e -o e", "e", "e", "play 16385\n"),
+        with("paint - --font f.hex -o f.hex", "f.hex", "f.hex", "").input("stop\n"),
+        with("font -o ./d.txt d.txt", "./d.txt", "d.txt", "x"),
+    ]
+}
+
+/// Files that are only like an input, and inputs that are no regular file.
+fn others() -> Vec<Case> {
+    let vcd = crate::cli::wave::Wave::of(&crate::cli::wave::events(EVENTS).unwrap_or_default());
+    let played = |words: &str, output: &str| given(words).out(vcd.lines()).writes(output, vcd.vcd());
+    let idle = Line::exactly("/dev/null: warning: no clock is played");
+    vec![
+        played("play e -o copy", "copy").file("copy", EVENTS),
+        played("play e -o folder/e", "folder/e").file("folder/e", EVENTS),
+        played("play e -o s", "s"),
+        played("play e -o link", "copy").file("copy", EVENTS).thing("link", link("copy")),
+        given("font d.txt -o f.hex").writes("f.hex", SAMPLE_TEXT),
+        given("play /dev/null -o /dev/null").says(idle),
+        given("font /dev/null -o /dev/null").status(1).says(Line::new("/dev/null: ", "")),
+        given("play none -o none").status(2).says(Line::exactly("none: cannot be read: No such file or directory")),
+    ]
+}
+
+pub fn all() -> Vec<Case> {
+    [by_every_way(), by_other_inputs(), before_all_else(), others()].concat()
+}
