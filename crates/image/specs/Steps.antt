@@ -23,3 +23,7 @@ sparedIn row free = pick (ltb row cellRows) free 0
 -- from one address up to another every bit is set, or spared
 abbrev pub Held : List ℕ → ℕ → ℕ → ℕ → Type 0
 Held image free from to = (k : ℕ) → from ≤ k → k < to → unused ≤ getD image k 0 + sparedIn (rowAt k) free
+
+-- from one address up to another no byte is below the number for its place in the stride
+abbrev pub Under : List ℕ → List ℕ → ℕ → ℕ → Type 0
+Under under image from to = (k : ℕ) → from ≤ k → k < to → getD under (rowAt k) 0 ≤ getD image k 0

@@ -6,7 +6,7 @@ ghost use lib.ListN.{length, getD};
 ghost use Rattle.laws.specs.Lists.{tabulate};
 ghost use Rattle.font.specs.Font.{fontCells, cellRows, fontRows};
 ghost use Rattle.image.specs.Image.{imageBytes, stride, unused, leastAt, firstLack, fontOf, rowIn, answerOf, leftOf, said};
-ghost use Rattle.image.specs.Steps.{WholeTo, sparedIn, Held};
+ghost use Rattle.image.specs.Steps.{WholeTo, sparedIn, Held, Under};
 
 pub const IMAGE_BYTES: usize = 8192;
 
@@ -120,17 +120,32 @@ fn held(image: &[u8], from: usize, to: usize, free: u8) -> u8
     requires { ⌜ (from ≤ to) × (to ≤ length (now image)) × (from % stride ≡ 0) × (to % stride ≡ 0) ⌝ }
     ensures { λ r. ⌜ (unused ≤ r → Held (now (image .entry)) free from to) ⌝ }
 {
+    let under = columns(image, from, to);
     let mut all: u8 = UNUSED;
+    let mut i = 0usize;
+    while i < STRIDE {
+        all = all & (under[i] | spare(i, free));
+        i += 1;
+    }
+    all
+}
+
+// The bits that all bytes of some strides have at each place of a stride, in an array that nothing lent can overlap, so that a stride is taken at once.
+fn columns(image: &[u8], from: usize, to: usize) -> [u8; STRIDE]
+    requires { ⌜ (from ≤ to) × (to ≤ length (now image)) × (from % stride ≡ 0) × (to % stride ≡ 0) ⌝ }
+    ensures { λ r. ⌜ Under r (now (image .entry)) from to ⌝ }
+{
+    let mut under = [UNUSED; STRIDE];
     let mut at = from;
     while at < to {
         let mut i = 0usize;
         while i < STRIDE {
-            all = all & (image[at + i] | spare(i, free));
+            under[i] = under[i] & image[at + i];
             i += 1;
         }
         at += STRIDE;
     }
-    all
+    under
 }
 
 fn spare(row: usize, free: u8) -> u8

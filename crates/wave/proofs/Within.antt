@@ -9,7 +9,7 @@ use native.Mathlib.Nat.{zero-add, suc-add, add-suc, add-zero}
 use native.Mathlib.Decide.{decLt}
 use native.Mathlib.Omega.{arith}
 use lib.Dec.{ltb}
-use lib.ListN.{length, take, drop, replicate, length-append, length-drop, length-replicate}
+use lib.ListN.{length, take, drop, replicate, length-append, length-drop}
 use lib.Seq.{take-at, drop-at, drop-drop, drop-length, length-take-le}
 use borrow.Author.Tests.{ltb-true, ltb-false}
 use Rattle.laws.specs.Pick.{pick}
@@ -125,31 +125,6 @@ module _ (xs s : List ℕ) (i k : ℕ) (long : length xs ≡ i) where
   pub put-behind : (ys : List ℕ) → take i (xs ++ s) ++ (ys ++ drop k (drop i (xs ++ s))) ≡ xs ++ (ys ++ drop k s)
   put-behind ys = rw (take-at xs s i long, drop-at xs s i long)
 
--- the bytes of a stretch, from its two fills
-module _ (s high low : List ℕ) (i x t : ℕ) (turns : t ≡ min (x - i) (length s)) (e : high ≡ replicate (length (take t s)) 1) where
-  high-is : high ≡ replicate t 1
-  high-is = e ∙ ap (λ (n : ℕ). replicate n 1) (length-take-le t s (omega arith))
-
-  long-high : length high ≡ t
-  long-high = ap length high-is ∙ length-replicate {A = ℕ} t 1
-
-  left : length (high ++ drop t s) - t ≡ length s - t
-  left = omega (arith, length-append high (drop t s), length-drop t s, long-high)
-
-  then-low : length (take (length s - t) (drop t s)) ≡ length s - (x - i)
-  then-low = omega (arith, length-take-le (length s - t) (drop t s) (omega (arith, length-drop t s)))
-
-  none-left : drop (length s - t) (drop t s) ≡ []
-  none-left = let whole : t + (length s - t) ≡ length s = omega arith in rw (drop-drop, whole) (drop-length s)
-
-  pub filled : low ≡ replicate (length (take (length (high ++ drop t s) - t) (drop t (high ++ drop t s)))) 0
-      → take t (high ++ drop t s) ++ (low ++ drop (length (high ++ drop t s) - t) (drop t (high ++ drop t s))) ≡ pulse i x (length s)
-  unfolding pulse
-  filled f =
-      let low-is : low ≡ replicate (length s - (x - i)) 0 = f ∙ rw (left, behind high (drop t s) t (length s - t) long-high, then-low) in
-      put-behind high (drop t s) t (length (high ++ drop t s) - t) long-high low
-      ∙ rw (left, none-left, append-nil low, low-is, high-is, ← turns)
-
 -- l is l₀ with the first i levels of the wave from a position on over it
 pub record Begun (q : Pair) (a i : ℕ) (l l₀ : List ℕ) : Type 0 where
   pub inside : i ≤ length l₀
@@ -165,16 +140,18 @@ module _ (q : Pair) (a : ℕ) where
   unfolding wave
   begun-none l = begun-by 0 l l (omega arith) refl
 
-  -- a part is laid behind it, up to e
-  pub begun-more : (i e : ℕ) (l l₀ ys : List ℕ) → Begun q a i l l₀ → i ≤ e → e ≤ length l₀ → ys ≡ wave q (a + i) (e - i)
+  -- a part is laid behind it, up to e, from the position p on
+  pub begun-more : (i e p : ℕ) (l l₀ ys : List ℕ) → Begun q a i l l₀ → i ≤ e → e ≤ length l₀ → ys ≡ wave q p (length (take (e - i) (drop i l))) → p ≡ a + i
       → Begun q a e (take i l ++ (ys ++ drop (e - i) (drop i l))) l₀
-  begun-more i e l l₀ ys g on room is =
+  begun-more i e p l l₀ ys g on room is place =
       let whole : i + (e - i) ≡ e = omega arith in
       let long : length (wave q a i) ≡ i = length-wave q a i in
       let more : wave q a i ++ wave q (a + i) (e - i) ≡ wave q a e = sym (wave-add q a i (e - i)) ∙ ap (wave q a) whole in
+      let part : length (take (e - i) (drop i l)) ≡ e - i = length-take-le (e - i) (drop i l) (omega (arith, length-drop i l, g .size)) in
+      let laid : ys ≡ wave q (a + i) (e - i) = is ∙ ap₂ (wave q) place part in
       begun-by e _ l₀ room
       (rw (g .is) (put-behind (wave q a i) (drop i l₀) i (e - i) long ys
-      ∙ rw (drop-drop, whole, is) (sym (append-assoc (wave q a i) (wave q (a + i) (e - i)) (drop e l₀)) ∙ ap (λ (w : List ℕ). w ++ drop e l₀) more)))
+      ∙ rw (drop-drop, whole, laid) (sym (append-assoc (wave q a i) (wave q (a + i) (e - i)) (drop e l₀)) ∙ ap (λ (w : List ℕ). w ++ drop e l₀) more)))
 
   pub begun-all : (i : ℕ) (l l₀ : List ℕ) → length l₀ ≤ i → Begun q a i l l₀ → l ≡ wave q a (length l₀)
   begun-all i l l₀ h g =
@@ -201,9 +178,7 @@ module _ (q : Pair) (a : ℕ) where
         → take head (ls ++ drop head s) ++ (ms ++ drop (n - head) (drop head (ls ++ drop head s))) ≡ laid q a s
     on-laid n head ls ms e h is then =
         let first : Begun q a head (ls ++ drop head s) s = begun-by head _ s (omega arith) (ap (λ (w : List ℕ). w ++ drop head s) (head-is head ls (omega arith) is)) in
-        let room : length (take (n - head) (drop head (ls ++ drop head s))) ≡ n - head =
-        length-take-le (n - head) _ (omega (arith, length-drop head (ls ++ drop head s), first .size)) in
-        begun-more head n _ s ms first h (omega arith) (then ∙ ap (wave q (a + head)) room) .is ∙ laid-is n e
+        begun-more head n (a + head) _ s ms first h (omega arith) then refl .is ∙ laid-is n e
 
 -- where the bytes are no more than the period has left
 pub laid-all : (q : Pair) (a : ℕ) (s : List ℕ) → a + length s ≤ period → laid q a s ≡ wave q a (length s)
