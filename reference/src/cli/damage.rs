@@ -5,9 +5,10 @@
 //! output file that is complete or as it was.
 
 use super::case::{case, Case, Said};
-use super::expect::{check, font, play, show, Paint, To, OUTPUT};
+use super::expect::{check, font, play, show, whole_font, Paint, To, OUTPUT};
 use super::randomly::{events_text, font_text, number, screen_text};
 use super::table::{SAMPLE_DRAWING, SAMPLE_TEXT};
+use super::text::BYTE_ORDER_MARK;
 use crate::cases::all as texts_by_hand;
 use crate::compare::hex::texts::random_text;
 use crate::model::hex::WRITTEN_TEXT;
@@ -86,7 +87,7 @@ fn damage_lines(bytes: &mut Vec<u8>, random: &mut Random) {
 
 fn damage_once(bytes: &mut Vec<u8>, random: &mut Random) {
     let place = random.below(bytes.len() + 1);
-    match random.below(14) {
+    match random.below(15) {
         0 | 1 if place < bytes.len() => bytes[place] ^= 1 << random.below(8),
         2 if place < bytes.len() => bytes[place] = random.byte(),
         3 => bytes.truncate(place),
@@ -103,6 +104,7 @@ fn damage_once(bytes: &mut Vec<u8>, random: &mut Random) {
             random.fill(&mut noise);
             insert(bytes, place, &noise);
         }
+        14 => insert(bytes, 0, BYTE_ORDER_MARK),
         10 => *bytes = bytes.iter().flat_map(|&byte| if byte == b'\n' { vec![13, 10] } else { vec![byte] }).collect(),
         _ => damage_lines(bytes, random),
     }
@@ -142,6 +144,15 @@ fn a_known_text(random: &mut Random) -> Vec<u8> {
     damaged(text, random)
 }
 
+fn with_cells_left_out(random: &mut Random) -> Vec<u8> {
+    let drawing = String::from_utf8_lossy(SAMPLE_DRAWING);
+    let one_in = random.pick(&[2, 20, 60]);
+    let mut cells = drawing.split("\ncell ");
+    let remarks = cells.next().unwrap_or_default().to_string();
+    let kept = cells.filter(|_| !random.one_in(one_in)).map(|cell| format!("\ncell {cell}"));
+    (remarks + &kept.collect::<String>()).into_bytes()
+}
+
 fn a_drawing(random: &mut Random) -> Vec<u8> {
     match random.below(10) {
         0 => noise(random),
@@ -150,6 +161,14 @@ fn a_drawing(random: &mut Random) -> Vec<u8> {
             // A few cells only.
             let end = random.between(200, 3000);
             damaged(&SAMPLE_DRAWING[..end], random)
+        }
+        3 | 4 => {
+            let drawing = with_cells_left_out(random);
+            if random.one_in(2) {
+                damaged(drawing, random)
+            } else {
+                drawing
+            }
         }
         _ => damaged(SAMPLE_DRAWING, random),
     }
@@ -271,6 +290,16 @@ fn without_output(words: Vec<Vec<u8>>) -> Vec<Vec<u8>> {
     words.into_iter().filter(|word| word != b"-o").collect()
 }
 
+/// The name of a file, in a few of them with what a terminal would not show.
+fn named(usual: &'static str, random: &mut Random) -> &'static str {
+    let odd = ["a\x1B[2J", "\x01", "b\nc", "\u{e9}\x7F.hex", "a b", "%n%s%s", "\u{200b}", "x\\x01", "'\"`"];
+    if random.one_in(8) {
+        random.pick(&odd)
+    } else {
+        usual
+    }
+}
+
 /// One damaged input.
 pub fn cases(index: u64, random: &mut Random) -> Case {
     let name = format!("damaged input {index}");
@@ -278,27 +307,29 @@ pub fn cases(index: u64, random: &mut Random) -> Case {
     match index % 10 {
         0 => {
             let (one, two) = (a_text(random), a_text(random));
-            let file = if random.one_in(4) { "-" } else { "a.hex" };
+            let file = if random.one_in(4) { "-" } else { named("a.hex", random) };
             check(&name, random.one_in(3), &[(file, Some(&one)), ("b.hex", Some(&two))])
         }
         1 | 2 => {
             let text = if random.one_in(2) { a_text(random) } else { a_known_text(random) };
-            check(&name, random.one_in(6), &[("a.hex", Some(&text))])
+            check(&name, random.one_in(6), &[(named("a.hex", random), Some(&text))])
         }
-        3 | 4 => font(&name, "d.txt", &a_drawing(random), to),
+        3 | 4 if random.one_in(4) => whole_font(&name, named("d.txt", random), &a_drawing(random), to),
+        3 | 4 => font(&name, named("d.txt", random), &a_drawing(random), to),
         5 => {
             let cells: Vec<usize> = (0..random.below(4)).map(|_| random.below(62)).collect();
-            show(&name, "f.hex", &a_text(random), &cells, to)
+            show(&name, named("f.hex", random), &a_text(random), &cells, to)
         }
         6 => {
             let screen = a_screen(random);
-            Paint { to, text: random.one_in(2), ..Paint::new(&screen, SAMPLE_TEXT) }.case(&name)
+            let (file, text) = (named("screen", random), random.one_in(2));
+            Paint { screen: (file, &screen), to, text, ..Paint::new(b"", SAMPLE_TEXT) }.case(&name)
         }
         7 => {
             let (screen, font) = (screen_text(random), a_text(random));
             Paint { to, ..Paint::new(screen.as_bytes(), &font) }.case(&name)
         }
-        8 => play(&name, "e.txt", &some_events(random), to),
+        8 => play(&name, named("e.txt", random), &some_events(random), to),
         _ => words(&name, random),
     }
 }

@@ -1,7 +1,8 @@
 //! Mistakes planted in a stand-in for the program, a few lines of shell: each must be reported.
 
+use super::case::Line;
 use super::case::{case, Case, Said};
-use super::expect::{check, font, play, pulse, To};
+use super::expect::{check, font, play, pulse, whole_font, Paint, To};
 use super::folder::{Folder, Thing};
 use super::program::Program;
 use super::table::{SAMPLE_DRAWING, SAMPLE_TEXT};
@@ -117,6 +118,122 @@ fn a_link_stays_a_link() {
     let case = case.writes("old", SAMPLE_TEXT);
     let wrong = "cat SAMPLE >new; mv new link";
     finds("link", &case, "cat SAMPLE >link", &[(wrong, "link is no longer what it was"), (wrong, "old differs")]);
+}
+
+#[test]
+fn an_input_is_no_output() {
+    let name = Thing::Name { of: "e".to_string() };
+    let made = case("name", "play e -o name").file("e", "play 1\n").thing("name", name).status(2);
+    let message = "dirgeflint: -o name is also an input: name another file; try: dirgeflint help play";
+    let right = format!("echo '{message}' >&2; exit 2");
+    finds(
+        "input-and-output",
+        &made.says(Line::exactly(message)),
+        &right,
+        &[
+            ("echo 'period 1'; echo '#1' >name", "status 0, and 2 is due"),
+            ("echo '#1' >name", "e differs at byte 0"),
+            ("echo '#1' >new; mv new name", "name differs at byte 0"),
+            (&format!("rm name; {right}"), "name is missing"),
+            (&format!("echo >>e; {right}"), "name differs at byte 7"),
+            (&right.replace("-o name", "-o e"), "standard error is not what is due"),
+            (&right.replace("exit 2", "exit 1"), "status 1, and 2 is due"),
+        ],
+    );
+}
+
+#[test]
+fn names_are_looked_at() {
+    let name = "a\u{e9}\x1B";
+    let right = "printf 'a\\303\\251\\\\x1B: cells 62 bytes 8192\\n'";
+    finds(
+        "names",
+        &check("a name", false, &[(name, Some(SAMPLE_TEXT))]),
+        right,
+        &[
+            (&right.replace("\\\\x1B", "\\033"), "standard output differs at byte 3"),
+            (&right.replace("x1B", "x1b"), "standard output differs at byte 6"),
+            (&right.replace("\\303\\251", "\\\\xC3\\\\xA9"), "standard output differs at byte 1"),
+        ],
+    );
+    let gone = "printf 'a\\303\\251\\\\x1B: cannot be read: No such file or directory\\n' >&2; exit 2";
+    finds(
+        "names-said",
+        &check("a name that is not there", false, &[(name, None)]),
+        gone,
+        &[
+            (&gone.replace("\\\\x1B", "\\033"), "standard error is not what is due"),
+            (&gone.replace("\\303\\251", "\\\\xC3\\\\xA9"), "standard error is not what is due"),
+        ],
+    );
+    // Where the wording is free, a control character is still seen.
+    let free = case("free", "play").word(name).status(2).said(Said::IfNotDone);
+    let wrong = "printf 'a\\033\\n' >&2; exit 2";
+    finds("names-free", &free, "echo 'a\u{e9}' >&2; exit 2", &[(wrong, "a byte that is not printable")]);
+}
+
+#[test]
+fn warnings_are_looked_at() {
+    let text = format!("return 4 0\n{}", "space red\n".repeat(22));
+    let paint =
+        Paint { to: To::New, width: Some(1024), words: "--width 1024".to_string(), ..Paint::new(b"", SAMPLE_TEXT) };
+    let fits = Paint { screen: ("s", text.as_bytes()), lines: Some(1), ..paint.clone() };
+    let fits = Paint { words: "--width 1024 --lines 1".to_string(), ..fits };
+    let cut = Paint { width: None, words: "--lines 1".to_string(), ..fits.clone() };
+    let picture = "{ printf 'P6\\n1024 1\\n255\\n'; head -c 3072 /dev/zero | tr '\\0' '\\200'; } >out";
+    let warning = "s: warning: the cells reach 1056 dots by 90 lines; at most 1024 by 1024 are painted";
+    let right = format!("{picture}; echo '{warning}' >&2");
+    finds("fits", &fits.case("fits"), picture, &[(&right, "standard error is not what is due:\n  nothing")]);
+    finds(
+        "cut",
+        &cut.case("cut"),
+        &right,
+        &[
+            (picture, "standard error is not what is due"),
+            (&right.replace("1056", "1024"), "standard error is not what is due"),
+            (&right.replace("90", "18"), "standard error is not what is due"),
+            (&format!("{right}; exit 1"), "status 1, and 0 is due"),
+        ],
+    );
+    // With a font that is not whole there may be a line about that, before or after; no other.
+    let partial = Paint { font: ("f", b":00000001FF"), ..cut };
+    let font = "echo 'f: warning: 8192 of 8192 bytes are not given; they count as FF, which is lit dots in a row: \
+                first at address 0000 (cell 0 row 0)' >&2";
+    finds(
+        "cut-and-partial",
+        &partial.case("partial"),
+        &right,
+        &[
+            (&format!("{picture}; {font}"), "standard error is not what is due"),
+            (&format!("{right}; {font}; {font}"), "standard error is not what is due"),
+            (&format!("{right}; echo words >&2"), "standard error is not what is due"),
+        ],
+    );
+    assert_eq!(judged("cut-and-partial", &partial.case("partial"), &format!("{right}; {font}")), Ok(()));
+    assert_eq!(judged("cut-and-partial", &partial.case("partial"), &format!("{font}; {right}")), Ok(()));
+}
+
+#[test]
+fn what_is_not_there_is_looked_at() {
+    let right = "echo 'd.txt: 61 cells are not drawn: 0 to 4, 6 to 61' >&2; exit 1";
+    let drawing = "cell 5\n".to_string() + &"............\n".repeat(18);
+    finds(
+        "whole",
+        &whole_font("one cell", "d.txt", drawing.as_bytes(), To::New),
+        right,
+        &[
+            (&right.replace("61 cells", "warning: 61 cells"), "standard error is not what is due"),
+            (&right.replace("drawn", "drawn and are empty"), "standard error is not what is due"),
+            (&format!("cat SAMPLE >out; {right}"), "out is left in the folder"),
+            (&right.replace("exit 1", "exit 0"), "status 0, and 1 is due"),
+        ],
+    );
+    let right = "echo 'period 1: coarse 0 fine 0 T 0 high 0 in 1 clock'";
+    let wrong = [(&*right.replace("clock", "clocks"), "standard output differs")];
+    finds("clock", &play("one clock", "e", b"play 1", To::Nowhere), right, &wrong);
+    let right = "echo 'e: warning: no clock is played' >&2";
+    let wrong = [("exit 0", "standard error is not what is due"), (&*format!("{right}; exit 1"), "status 1, and 0")];
+    finds("no-clock", &play("no clock", "e", b"play 0", To::Nowhere), right, &wrong);
 }
 
 #[test]

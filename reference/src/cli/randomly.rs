@@ -1,11 +1,11 @@
 //! Random fonts, screens and events, each typed in one of the many ways that the command line takes.
 
 use super::case::Case;
-use super::expect::{font, play, show, Paint, To};
+use super::expect::{font, play, show, whole_font, Paint, To};
 use super::screen::COLOURS;
 use super::table::SAMPLE_TEXT;
 use super::text::drawing;
-use crate::compare::hex::texts::random_font;
+use crate::compare::hex::texts::{random_font, record};
 use crate::model::display::{kind, Kind};
 use crate::model::hex::written_text;
 use crate::model::image;
@@ -68,8 +68,22 @@ pub fn font_text(random: &mut Random) -> Vec<u8> {
     written_text(&image::of_font(&random_font(random))).into_bytes()
 }
 
+/// A text that lacks one byte.
+fn text_but_one(random: &mut Random) -> Vec<u8> {
+    let image = image::of_font(&random_font(random));
+    let short = random.below(512);
+    let lines = image.chunks(16).enumerate().map(|(number, bytes)| {
+        let bytes = if number == short { &bytes[..15] } else { bytes };
+        [record(16 * number, 0, bytes), b"\n".to_vec()].concat()
+    });
+    lines.chain([b":00000001FF".to_vec()]).flatten().collect()
+}
+
 /// The text with some records left out.
 fn partial_text(random: &mut Random) -> Vec<u8> {
+    if random.one_in(6) {
+        return text_but_one(random);
+    }
     let text = font_text(random);
     let one_in = random.pick(&[2, 20, 300]);
     let records = text.split_inclusive(|&byte| byte == b'\n');
@@ -112,6 +126,7 @@ pub fn fonts(index: u64, random: &mut Random) -> Case {
             let cells: Vec<usize> = (0..random.between(1, 9)).map(|_| random.below(62)).collect();
             show(&name, "-", &font_text(random), &cells, to)
         }
+        _ if random.one_in(3) => whole_font(&name, "d.txt", scattered_drawing(random).as_bytes(), to),
         _ => font(&name, "d.txt", scattered_drawing(random).as_bytes(), to),
     }
 }
@@ -127,7 +142,8 @@ fn random_word(style: usize, random: &mut Random) -> u16 {
         (1, 0..=5) => 992 + random.word() % 16,
         (1, 6) => 1008 + 2 * random.below(8) as u16,
         (1, _) => character(random),
-        // Long rows.
+        // Long rows, some of them too long.
+        (2, 0) if random.one_in(3) => 992 + random.word() % 16,
         (2, 0..=2) => 1008 + 2 * random.below(8) as u16,
         (2, _) => character(random),
         // Any word, an end among them once in a while.
@@ -233,9 +249,10 @@ pub fn events_text(random: &mut Random) -> String {
             4..=7 => format!("high {}", number(u32::from(random.byte()), random)),
             8 => "reset".to_string(),
             _ => {
-                let clocks = match random.below(6) {
+                let clocks = match random.below(7) {
                     0 => 0,
                     1 => random.between(1, 16384),
+                    6 => 1,
                     2 | 3 => 16384,
                     _ => random.between(1, 300),
                 };
@@ -260,6 +277,7 @@ pub fn waves(index: u64, random: &mut Random) -> Case {
 #[cfg(test)]
 mod tests {
     use super::*;
+    use crate::cli::case::Said;
     use crate::cli::screen::screen;
     use crate::cli::wave::{events, Wave};
 
@@ -282,6 +300,26 @@ mod tests {
         }
         assert!(lines.lines().filter(|line| line.ends_with("clocks")).count() > 40);
         assert!(lines.lines().filter(|line| !line.ends_with("clocks")).count() > 40);
+        assert!(lines.lines().filter(|line| line.ends_with(" in 1 clock")).count() > 2);
+    }
+
+    /// Of the random cases as many as the program is given, how many say a line with this in it.
+    fn saying(make: fn(u64, &mut Random) -> Case, number: u64, what: &str) -> usize {
+        let said = |index: u64| match make(index, &mut Random::of_case(crate::compare::DEFAULT_SEED, index)).said {
+            Said::Lines(lines) => lines.iter().any(|line| line.start.contains(what)),
+            _ => false,
+        };
+        (0..number).filter(|&index| said(index)).count()
+    }
+
+    #[test]
+    fn every_warning_is_due_somewhere() {
+        assert!(saying(pictures, 300, ": warning: the cells reach ") > 10);
+        assert!(saying(pictures, 300, ": warning: no word is given") > 0);
+        assert!(saying(waves, 300, ": warning: no clock is played") > 3);
+        assert!(saying(fonts, 200, " cells are not drawn and are empty") > 10);
+        assert!(saying(fonts, 200, ": 1 of 8192 bytes is not given") > 2);
+        assert!(saying(fonts, 200, " cells are not drawn: ") > 5);
     }
 
     #[test]

@@ -102,7 +102,7 @@ fn others() -> Vec<Case> {
         played("play e -o copy", "copy").file("copy", EVENTS),
         played("play e -o folder/e", "folder/e").file("folder/e", EVENTS),
         played("play e -o s", "s"),
-        played("play e -o link", "copy").file("copy", EVENTS).thing("link", link("copy")),
+        played("play e -o to-copy", "copy").file("copy", EVENTS).thing("to-copy", link("copy")),
         given("font d.txt -o f.hex").writes("f.hex", SAMPLE_TEXT),
         given("play /dev/null -o /dev/null").says(idle),
         given("font /dev/null -o /dev/null").status(1).says(Line::new("/dev/null: ", "")),

@@ -33,8 +33,10 @@ mod tests {
     #[test]
     fn names_differ_and_every_status_and_command_is_there() {
         let cases = all();
-        let names: BTreeSet<&str> = cases.iter().map(|case| case.name.as_str()).collect();
-        assert_eq!(names.len(), cases.len());
+        let mut names = BTreeSet::new();
+        for case in &cases {
+            assert!(names.insert(&case.name), "{}", case.name);
+        }
         for command in ["check", "font", "show", "paint", "play", "pulse"] {
             for status in [0, 1, 2] {
                 let is = |case: &&Case| case.words.first().is_some_and(|word| word == command.as_bytes());
