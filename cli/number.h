@@ -13,7 +13,7 @@ int digit_value(char digit);
 bool read_number(struct slice word, uint32_t *number);
 
 /* How it may be written, after its range in a message. */
-#define IN_FORM ", in digits, or in hexadecimal ones after 0x"
+#define IN_FORM " (hexadecimal after 0x)"
 
 /* A number from least to most. */
 bool read_number_within(struct slice word, uint32_t least, uint32_t most, uint32_t *number);
