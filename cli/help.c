@@ -8,7 +8,7 @@
 #include "slice.h"
 
 #define STATUS(one, two) "\nExit status: 0 done; 1 " one ";\n2 wrong usage, or " two ".\n"
-#define WHERE "see NOTES of the manual page, or the guide"
+#define WHERE "see NOTES in dirgeflint(1), or GUIDE.md"
 #define CANNOT_READ "a file cannot be read"
 #define CANNOT_WRITE "a file cannot be read or written"
 
@@ -55,7 +55,7 @@ static const char on_font[] =
     "Makes the text of a font, in Intel hex, of a drawing. Without -o it goes to\n"
     "standard output.\n"
     "\n"
-    "  --whole     a drawing that leaves cells out is bad; without this it is warned of\n"
+    "  --whole     a drawing that leaves cells out is bad; else it is warned of\n"
     "\n"
     "A drawing has for each cell a heading, 'cell' and a number from 0 to 61, with a\n"
     "name after it or none; then 18 rows of 12 dots, # lit and . unlit:\n"
