@@ -95,6 +95,8 @@ pub struct Case {
     pub things: Vec<(OsString, Thing)>,
     pub words: Vec<Vec<u8>>,
     pub input: Option<Vec<u8>>,
+    /// A file that is standard input.
+    pub input_file: Option<String>,
     pub full: bool,
     /// 0, 1 or 2 if not given.
     pub status: Option<i32>,
@@ -111,6 +113,7 @@ pub fn case(name: &str, words: &str) -> Case {
         things: Vec::new(),
         words: words.split(' ').filter(|word| !word.is_empty()).map(|word| word.as_bytes().to_vec()).collect(),
         input: None,
+        input_file: None,
         full: false,
         status: Some(0),
         out: Out::Exactly(Vec::new()),
@@ -136,6 +139,11 @@ impl Case {
 
     pub fn input(mut self, bytes: impl Into<Vec<u8>>) -> Self {
         self.input = Some(bytes.into());
+        self
+    }
+
+    pub fn input_file(mut self, name: &str) -> Self {
+        self.input_file = Some(name.to_string());
         self
     }
 
@@ -201,7 +209,11 @@ impl Case {
     /// The words as they would be typed.
     pub fn command(&self) -> String {
         let words: Vec<String> = self.words.iter().map(|word| typed(word)).collect();
-        let input = if self.input.is_some() { " <stdin.given" } else { "" };
+        let input = match (&self.input_file, &self.input) {
+            (Some(name), _) => format!(" <{name}"),
+            (None, Some(_)) => " <stdin.given".to_string(),
+            (None, None) => String::new(),
+        };
         format!("dirgeflint {}{}{}", words.join(" "), input, if self.full { " >/dev/full" } else { "" })
     }
 
@@ -212,7 +224,13 @@ impl Case {
             folder.put(name, thing).map_err(trouble)?;
         }
         let before = folder.things().map_err(trouble)?;
-        let order = Order { words: &self.words, input: self.input.as_deref(), folder: folder.path(), full: self.full };
+        let order = Order {
+            words: &self.words,
+            input: self.input.as_deref(),
+            input_file: self.input_file.as_deref(),
+            folder: folder.path(),
+            full: self.full,
+        };
         let ended = program.run(&order).map_err(trouble)?;
         let after = folder.things().map_err(trouble)?;
         let differences = [

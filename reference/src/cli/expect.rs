@@ -2,7 +2,7 @@
 
 use super::case::{case, Case, Line, Said};
 use super::folder::Thing;
-use super::screen::{is_empty, screen, Scene, DEFAULTS};
+use super::screen::{edges, is_empty, screen, Scene, DEFAULTS};
 use super::text::{self, drawing, whole_drawing};
 use super::wave::{events, Wave};
 use crate::draw;
@@ -230,7 +230,11 @@ impl<'a> Paint<'a> {
         let case = self.bare(name);
         let (good, words) = match (text::read(&named(self.font.0), self.font.1), screen(self.screen.1)) {
             (Ok(good), Ok(words)) => (good, words),
-            (Err(line), Ok(_)) => return case.status(1).says(line),
+            (Err(line), Ok(words)) => {
+                // Whether the screen is warned of as well is left open.
+                let others = self.warnings(&words);
+                return case.status(1).said(Said::Among { due: vec![line], others });
+            }
             (Ok(_), Err(line)) => {
                 // Whether the font's text is warned of before that is left open.
                 let line = hinted(Line::new(format!("{}:{line}: ", named(self.screen.0)), ""), self.screen.1);
@@ -242,8 +246,8 @@ impl<'a> Paint<'a> {
         // Whether the font's text is warned of is left open here too.
         let others = text::warnings(&named(self.font.0), &good);
         let &Paint { settings, frame, width, lines, .. } = self;
+        let due = self.warnings(&words);
         let scene = Scene { words, font: good.font, settings, frame, width, lines };
-        let due = self.warnings(&scene);
         let case = if others.is_empty() { with_lines(case, due) } else { case.said(Said::Among { due, others }) };
         let picture = scene.picture().expect("settings that are refused are cases by hand");
         let text = self.text || self.to == To::Nowhere;
@@ -251,12 +255,12 @@ impl<'a> Paint<'a> {
     }
 
     /// What is said of a screen that is painted all the same: nothing is there, or it does not fit.
-    fn warnings(&self, scene: &Scene) -> Vec<Line> {
+    fn warnings(&self, words: &[u16]) -> Vec<Line> {
         let name = named(self.screen.0);
         if is_empty(self.screen.1) {
             return vec![Line::exactly(format!("{name}: warning: no word is given: the screen is empty"))];
         }
-        let (right, bottom) = scene.edges();
+        let (right, bottom) = edges(words, &self.settings);
         let cut = (self.width.is_none() && right > WIDEST) || (self.lines.is_none() && bottom > WIDEST);
         let line = || {
             Line::exactly(format!(

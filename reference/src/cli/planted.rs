@@ -279,6 +279,9 @@ fn rules_hold_where_no_answer_is_known() {
 fn standard_input_and_a_full_disk_are_what_they_should_be() {
     let echo = case("echo", "").input([b'x'; 200_000]).out([b'x'; 200_000]);
     finds("input", &echo, "cat", &[("head -c 1000", "standard output differs")]);
+    let file = case("file", "").file("e", "words").input_file("e").out("words");
+    let wrong = [("cat; echo >e", "e differs at byte 0"), ("cat >new; cat new; rm new e", "e is missing")];
+    finds("input-file", &file, "[ /dev/stdin -ef e ] && cat", &wrong);
     let full = case("full", "").full().status(2).said(Said::IfNotDone);
     finds(
         "full",

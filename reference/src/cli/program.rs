@@ -1,7 +1,7 @@
 //! The program as a process: what it is given, and how it ends.
 
 use std::ffi::{OsStr, OsString};
-use std::fs::OpenOptions;
+use std::fs::{File, OpenOptions};
 use std::io::{self, Read, Write};
 use std::os::unix::ffi::OsStrExt;
 use std::os::unix::process::ExitStatusExt;
@@ -23,8 +23,10 @@ pub struct Program {
 #[derive(Clone, Copy, Debug)]
 pub struct Order<'a> {
     pub words: &'a [Vec<u8>],
-    /// Standard input; it is empty if none is given.
+    /// Standard input, through a pipe; it is empty if none is given.
     pub input: Option<&'a [u8]>,
+    /// A file of the folder that is standard input instead.
+    pub input_file: Option<&'a str>,
     /// Where it runs.
     pub folder: &'a Path,
     /// Standard output is a disk with no room left.
@@ -52,7 +54,11 @@ impl Program {
             .args(&self.words[1..])
             .args(order.words.iter().map(|word| OsStr::from_bytes(word)))
             .current_dir(order.folder)
-            .stdin(if order.input.is_some() { Stdio::piped() } else { Stdio::null() })
+            .stdin(match order.input_file {
+                Some(name) => File::open(order.folder.join(name))?.into(),
+                None if order.input.is_some() => Stdio::piped(),
+                None => Stdio::null(),
+            })
             .stdout(if order.full { full()? } else { Stdio::piped() })
             .stderr(Stdio::piped())
             .spawn()?;

@@ -61,6 +61,14 @@ pub fn screen(text: &[u8]) -> Result<Vec<u16>, usize> {
     Ok(screen)
 }
 
+/// The greatest right edge and the greatest bottom edge of a cell, seen or not.
+pub fn edges(words: &[u16], settings: &Settings) -> (u32, u32) {
+    let cells = cells(words, settings);
+    let right = cells.iter().map(|cell| cell.left + 12 * cell.size).max();
+    let bottom = cells.iter().map(|cell| cell.top + 18 * cell.size).max();
+    (right.unwrap_or(0), bottom.unwrap_or(0))
+}
+
 /// What is to be painted.
 #[derive(Clone, Debug)]
 pub struct Scene {
@@ -91,14 +99,6 @@ impl Scene {
             let (right, bottom) = (cell.left + 12 * cell.size, cell.top + 18 * cell.size);
             (width.max(right.min(WIDEST)), lines.max(bottom.min(WIDEST)))
         })
-    }
-
-    /// The greatest right edge and the greatest bottom edge of a cell, seen or not.
-    pub fn edges(&self) -> (u32, u32) {
-        let cells = cells(&self.words, &self.settings);
-        let right = cells.iter().map(|cell| cell.left + 12 * cell.size).max();
-        let bottom = cells.iter().map(|cell| cell.top + 18 * cell.size).max();
-        (right.unwrap_or(0), bottom.unwrap_or(0))
     }
 
     pub fn picture(&self) -> Result<Picture, Refusal> {
@@ -218,7 +218,7 @@ mod tests {
 
     #[test]
     fn edges_are_those_of_every_cell() {
-        let edges = |words: &[u16], h, v| scene(words, Settings { h, v, ..DEFAULTS }).edges();
+        let edges = |words: &[u16], h, v| edges(words, &Settings { h, v, ..DEFAULTS });
         assert_eq!(edges(&[], 9, 9), (0, 0));
         assert_eq!(edges(&[997], 9, 9), (0, 0));
         assert_eq!(edges(&[14], 2, 3), (20, 30));

@@ -15,7 +15,7 @@ fn one(name: &str, text: &[u8]) -> Case {
 fn naming(name: &str, text: &[u8], names: &[&str]) -> Case {
     let case = one(name, text);
     let Said::Lines(lines) = &case.said else {
-        return case;
+        panic!("{}: which lines are said is not known", case.name);
     };
     let line = names.iter().fold(lines[0].clone(), |line, name| line.naming(*name));
     case.said(Said::Lines(vec![line]))

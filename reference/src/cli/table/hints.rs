@@ -8,7 +8,7 @@ use crate::draw;
 
 fn naming(case: Case, name: &str) -> Case {
     let Said::Lines(lines) = &case.said else {
-        return case;
+        panic!("{}: which lines are said is not known", case.name);
     };
     let lines = lines.iter().map(|line| line.clone().naming(name)).collect();
     case.said(Said::Lines(lines))

@@ -93,6 +93,21 @@ fn before_all_else() -> Vec<Case> {
     ]
 }
 
+/// Standard input that is a file, by whatever name.
+fn by_standard_input() -> Vec<Case> {
+    let from = |file: &str, words: &str, output: &str| refused(given(words).input_file(file), output);
+    vec![
+        from("d.txt", "font - -o d.txt", "d.txt"),
+        from("f.hex", "show - -o ./f.hex", "./f.hex"),
+        from("s", "paint - --font f.hex -o s", "s"),
+        from("f.hex", "paint s --font - -o f.hex", "f.hex"),
+        from("f.hex", "paint s --font - -o s", "s"),
+        from("e", "play - -o e", "e"),
+        from("e", "play /dev/stdin -o e", "e"),
+        from("e", "play - -o name", "name").thing("name", name_of("e")),
+    ]
+}
+
 /// Files that are only like an input, and inputs that are no regular file.
 fn others() -> Vec<Case> {
     let vcd = crate::cli::wave::Wave::of(&crate::cli::wave::events(EVENTS).unwrap_or_default());
@@ -103,6 +118,9 @@ fn others() -> Vec<Case> {
         played("play e -o folder/e", "folder/e").file("folder/e", EVENTS),
         played("play e -o s", "s"),
         played("play e -o to-copy", "copy").file("copy", EVENTS).thing("to-copy", link("copy")),
+        played("play - -o new", "new").input_file("e"),
+        // It is no input of this command.
+        played("play e -o f.hex", "f.hex").input_file("f.hex"),
         given("font d.txt -o f.hex").writes("f.hex", SAMPLE_TEXT),
         given("play /dev/null -o /dev/null").says(idle),
         given("font /dev/null -o /dev/null").status(1).says(Line::new("/dev/null: ", "")),
@@ -111,5 +129,5 @@ fn others() -> Vec<Case> {
 }
 
 pub fn all() -> Vec<Case> {
-    [by_every_way(), by_other_inputs(), before_all_else(), others()].concat()
+    [by_every_way(), by_other_inputs(), by_standard_input(), before_all_else(), others()].concat()
 }

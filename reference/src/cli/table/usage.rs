@@ -57,7 +57,7 @@ fn dashes() -> Vec<Case> {
     let lacking = |words: &str| {
         let case = wrong(words);
         let Said::Lines(lines) = &case.said else {
-            return case;
+            panic!("{}: which lines are said is not known", case.name);
         };
         let lines = lines.iter().map(|line| line.clone().naming("needs a value")).collect();
         Case { name: format!("a value is due: {words}"), ..case.said(Said::Lines(lines)) }
