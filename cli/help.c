@@ -8,6 +8,7 @@
 #include "slice.h"
 
 #define STATUS(one, two) "\nExit status: 0 done; 1 " one ";\n2 wrong usage, or " two ".\n"
+#define WHERE "see NOTES of the manual page, or the guide"
 #define CANNOT_READ "a file cannot be read"
 #define CANNOT_WRITE "a file cannot be read or written"
 
@@ -27,8 +28,8 @@ static const char on_all[] =
     "  help    this, or more about a command: dirgeflint help paint\n"
     "\n"
     "Options may stand before or after files, as --name VALUE or --name=VALUE, each\n"
-    "once; -- ends them. The file - is standard input, and -o - standard output. A\n"
-    "number is decimal, or hexadecimal after 0x.\n" STATUS("refused, or bad input", CANNOT_WRITE);
+    "once; -- ends them. The file - is standard input, and -o - standard output; -o\n"
+    "may not name an input. A number is decimal, or hexadecimal after 0x.\n" STATUS("refused, or bad input", CANNOT_WRITE);
 
 static const char on_check[] =
     "usage: dirgeflint check [--whole] TEXT.hex ..\n"
@@ -49,10 +50,12 @@ static const char on_check[] =
     "4 bits below four set ones. All other bytes are FF.\n" STATUS("a text was refused or is not whole", CANNOT_READ);
 
 static const char on_font[] =
-    "usage: dirgeflint font DRAWING.txt [-o FONT.hex]\n"
+    "usage: dirgeflint font [--whole] DRAWING.txt [-o FONT.hex]\n"
     "\n"
     "Makes the text of a font, in Intel hex, of a drawing. Without -o it goes to\n"
     "standard output.\n"
+    "\n"
+    "  --whole     a drawing that leaves cells out is bad; without this it is warned of\n"
     "\n"
     "A drawing has for each cell a heading, 'cell' and a number from 0 to 61, with a\n"
     "name after it or none; then 18 rows of 12 dots, # lit and . unlit:\n"
@@ -65,7 +68,10 @@ static const char on_font[] =
     "  (15 rows more)\n"
     "\n"
     "Cells come in any order, each once at most; one that is not drawn is empty, and\n"
-    "a warning tells so. Empty lines, and lines that begin with ;, are passed over.\n" STATUS("the drawing is bad", CANNOT_WRITE);
+    "a warning tells so. Empty lines, lines that begin with ;, and blanks at a row's\n"
+    "end are passed over.\n"
+    "\n"
+    "A real chip may store a font otherwise: " WHERE ".\n" STATUS("the drawing is bad", CANNOT_WRITE);
 
 static const char on_show[] =
     "usage: dirgeflint show FONT.hex [CELL ..] [-o DRAWING.txt]\n"
@@ -108,7 +114,9 @@ static const char on_paint[] =
     "  character 18 yellow blink\n"
     "  return 2 4                 ; a new row: size 1 to 4, spacing 0, 4, 8 or 12\n"
     "  0x0DE                      ; a word as it is, 0 to 1023\n"
-    "  end\n" STATUS("an option or the text was refused, or the screen is bad", CANNOT_WRITE);
+    "  end\n"
+    "\n"
+    "A real chip may show it otherwise: " WHERE ".\n" STATUS("an option or the text was refused, or the screen is bad", CANNOT_WRITE);
 
 static const char on_play[] =
     "usage: dirgeflint play EVENTS [-o WAVE.vcd]\n"
@@ -126,7 +134,9 @@ static const char on_play[] =
     "  play 16384     ; plays 0 to 16384 clocks\n"
     "  reset\n"
     "\n"
-    "This prints: period 1: coarse 1 fine 3 T 131 high 131\n" STATUS("a play was refused, or a line is bad", CANNOT_WRITE);
+    "This prints: period 1: coarse 1 fine 3 T 131 high 131\n"
+    "\n"
+    "A real chip may tune otherwise: " WHERE ".\n" STATUS("a play was refused, or a line is bad", CANNOT_WRITE);
 
 static const char on_pulse[] =
     "usage: dirgeflint pulse CHANNEL BYTE\n"
