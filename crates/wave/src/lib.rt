@@ -1,6 +1,6 @@
 // The levels that a pair gives over a period of the DAC. A period is 128 sub-periods of 128 clocks, each of them high first and then low.
 ghost use mathlib.Core.Path.{_≡_};
-ghost use Prim.Native.Nat.{_+_, _%_, _<_, _≤_, min};
+ghost use Prim.Native.Nat.{_+_, _-_, _%_, _<_, _≤_, min};
 ghost use lib.ListN.{length};
 ghost use Rattle.wave.specs.Wave.{period, subPeriod, subPeriods, added as addedOf, wave, laid};
 ghost use Rattle.wave.specs.Steps.{levelBelow, highIn, pulse};
@@ -58,19 +58,23 @@ fn lay_on(levels: &mut [u8], pair: Pair, from: usize)
     lay_within(&mut levels[i..], pair, from + i);
 }
 
-// The levels of clocks within one sub-period. A whole one is laid apart, by a number of clocks that is known when this is compiled.
+// The levels of clocks within one sub-period. One clock, and a whole sub-period, are laid by a number of clocks that is known when this is compiled.
 fn lay_within(levels: &mut [u8], pair: Pair, from: usize)
     requires { ⌜ (from < period) × (from % subPeriod + length (now levels) ≤ subPeriod) ⌝ }
     ensures { λ _. ⌜ now (levels .exit) ≡ wave pair from (length (now (levels .entry))) ⌝ }
 {
-    let clock = (from % SUB_PERIOD) as u8;
+    let clock = from % SUB_PERIOD;
+    let first = clock as u8;
     let high = high_in(pair, from / SUB_PERIOD);
-    let n = levels.len();
-    if n == SUB_PERIOD {
-        lay_clocks(levels, SUB_PERIOD, clock, high);
+    if levels.len() == 1 {
+        lay_clocks(levels, 1, first, high);
         return;
     }
-    lay_clocks(levels, n, clock, high);
+    if levels.len() == SUB_PERIOD {
+        lay_clocks(levels, SUB_PERIOD, first, high);
+        return;
+    }
+    stretch(levels, clock, high as usize);
 }
 
 // The levels of n clocks of a sub-period, clock by clock. The first clock comes from the caller so that clocks are counted and compared as bytes,
@@ -92,6 +96,15 @@ fn level_below(clock: u8, high: u8) -> u8
     ensures { λ r. ⌜ r ≡ levelBelow clock high ⌝ }
 {
     if clock < high { 1 } else { 0 }
+}
+
+// Fills the bytes with the levels from a clock of a sub-period on: its high clocks, then its low ones.
+fn stretch(levels: &mut [u8], clock: usize, high: usize)
+    ensures { λ _. ⌜ now (levels .exit) ≡ pulse clock high (length (now (levels .entry))) ⌝ }
+{
+    let turn = least(beyond(high, clock), levels.len());
+    fill::fill(&mut levels[..turn], 1);
+    fill::fill(&mut levels[turn..], 0);
 }
 
 // How many clocks of sub-period n are high.
@@ -136,4 +149,11 @@ fn least(a: usize, b: usize) -> usize
     ensures { λ r. ⌜ r ≡ min a b ⌝ }
 {
     if a < b { a } else { b }
+}
+
+// How far a is beyond b, or 0.
+fn beyond(a: usize, b: usize) -> usize
+    ensures { λ r. ⌜ r ≡ a - b ⌝ }
+{
+    if b < a { a - b } else { 0 }
 }

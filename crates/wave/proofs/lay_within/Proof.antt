@@ -9,8 +9,8 @@ use Rattle.wave.proofs.Within.{within-laid}
 use Rattle.wave.proofs.lay_within.Statement.{statement}
 use Rattle.wave.proofs.lay_within.Tie as tie
 
-cast-clock : tie.Need-cast-clock
-cast-clock c = search needs
+cast-first : tie.Need-cast-first
+cast-first c = search needs
 
 high-in-requires : tie.Need-high-in-requires
 high-in-requires c κs = search needs
@@ -26,8 +26,8 @@ returns c =
     let a = (let p : tie.Start = search in p .args) in
     let high = (let p : tie.After-high-in = search in p .high-in .ensures) in
     let laid = (let p : tie.After-lay-clocks = search in p .lay-clocks .ensures) in
-    let all : length (a .levels .now) ≡ 128 = omega arith in
-    rw all (within-laid (a .pair) (a .from) (a .from % 128) _ 128 _ refl high (omega arith) laid)
+    let one : length (a .levels .now) ≡ 1 = omega arith in
+    rw one (within-laid (a .pair) (a .from) (a .from % 128) _ 1 _ refl high (omega arith) laid)
 
 lay-clocks-requires-2 : tie.Need-lay-clocks-requires-2
 lay-clocks-requires-2 c κs = search needs
@@ -40,7 +40,27 @@ returns-2 c =
     let a = (let p : tie.Start = search in p .args) in
     let high = (let p : tie.After-high-in = search in p .high-in .ensures) in
     let laid = (let p : tie.After-lay-clocks2 = search in p .lay-clocks2 .ensures) in
+    let all : length (a .levels .now) ≡ 128 = omega arith in
+    rw all (within-laid (a .pair) (a .from) (a .from % 128) _ 128 _ refl high (omega arith) laid)
+
+cast-stretch : tie.Need-cast-stretch
+cast-stretch c = search needs
+
+stretch-requires : tie.Need-stretch-requires
+stretch-requires c κs = search needs
+
+same-length-3 : tie.Need-same-length-3
+same-length-3 c = search needs
+
+returns-3 : tie.Need-returns-3
+returns-3 c =
+    let a = (let p : tie.Start = search in p .args) in
+    let high = (let p : tie.After-high-in = search in p .high-in .ensures) in
+    let laid = (let p : tie.After-stretch = search in p .stretch .ensures) in
     within-laid (a .pair) (a .from) (a .from % 128) _ (length (a .levels .now)) _ refl high (omega arith) laid
 
 pub lay-within-spec : {M : Type 1} → statement M
-lay-within-spec = tie.close (tie.spec cast-clock high-in-requires lay-clocks-requires same-length returns lay-clocks-requires-2 same-length-2 returns-2)
+lay-within-spec =
+    tie.close
+    (tie.spec cast-first high-in-requires lay-clocks-requires same-length returns lay-clocks-requires-2 same-length-2 returns-2 cast-stretch stretch-requires
+    same-length-3 returns-3)
