@@ -160,18 +160,17 @@ static void port(const face *f, int size)
 static const uint16_t *some_font(void)
 {
     static uint16_t font[1116];
-    for (uint32_t i = 0; i < 1116; i++)
-        font[i] = (uint16_t)(i * 2654 % 4096);
+    if (font[1] == 0) /* it is made once, and not while a call is timed */
+        for (uint32_t i = 0; i < 1116; i++)
+            font[i] = (uint16_t)(i * 2654 % 4096);
     return font;
 }
 
 static void frame(const face *f, const uint16_t *words)
 {
     static uint8_t dots[SIDE];
-    static const uint16_t *font;
     dirgeflint_settings settings = { true, 3, 1, 2, 2, 1, 0 };
-    if (font == NULL)
-        font = some_font();
+    const uint16_t *font = some_font();
     for (uint32_t line = 0; line < SIDE; line++)
         f->paint(words, 64, font, 1116, settings, 5, line, SIDE, dots, SIDE);
     seen = dots[9];
@@ -207,11 +206,9 @@ static void full(const face *f, int size)
 static void cut(const face *f, int size)
 {
     static uint8_t dots[SIDE];
-    static const uint16_t *font;
     dirgeflint_settings settings = { true, 3, 1, 0, 0, 1, 0 };
     uint16_t words[64];
-    if (font == NULL)
-        font = some_font();
+    const uint16_t *font = some_font();
     words[0] = dirgeflint_return((uint32_t)size, 0);
     for (int i = 1; i < 64; i++)
         words[i] = dirgeflint_character((uint32_t)i % 62, 5, false);
@@ -283,11 +280,9 @@ static void one_play(const face *f, int size)
 static void one_line(const face *f, uint32_t width, int cells)
 {
     static uint8_t dots[SIDE];
-    static const uint16_t *font;
     dirgeflint_settings settings = { true, 3, 1, 0, 0, 1, 0 };
     uint16_t words[64];
-    if (font == NULL)
-        font = some_font();
+    const uint16_t *font = some_font();
     for (int i = 0; i < 64; i++)
         words[i] = i < cells ? dirgeflint_character((uint32_t)i % 62, 5, false) : dirgeflint_end();
     f->paint(words, 64, font, 1116, settings, 5, 9, width, dots, SIDE);
