@@ -165,18 +165,16 @@ module _ (q : Pair) (a : ℕ) where
   unfolding wave
   begun-none l = begun-by 0 l l (omega arith) refl
 
-  -- a part is laid behind it, up to e, from the position p on
-  pub begun-more : (i e p : ℕ) (l l₀ ys : List ℕ) → Begun q a i l l₀ → i ≤ e → e ≤ length l₀ → ys ≡ wave q p (length (take (e - i) (drop i l))) → p ≡ a + i
+  -- a part is laid behind it, up to e
+  pub begun-more : (i e : ℕ) (l l₀ ys : List ℕ) → Begun q a i l l₀ → i ≤ e → e ≤ length l₀ → ys ≡ wave q (a + i) (e - i)
       → Begun q a e (take i l ++ (ys ++ drop (e - i) (drop i l))) l₀
-  begun-more i e p l l₀ ys g on room is place =
+  begun-more i e l l₀ ys g on room is =
       let whole : i + (e - i) ≡ e = omega arith in
       let long : length (wave q a i) ≡ i = length-wave q a i in
       let more : wave q a i ++ wave q (a + i) (e - i) ≡ wave q a e = sym (wave-add q a i (e - i)) ∙ ap (wave q a) whole in
-      let part : length (take (e - i) (drop i l)) ≡ e - i = length-take-le (e - i) (drop i l) (omega (arith, length-drop i l, g .size)) in
-      let laid : ys ≡ wave q (a + i) (e - i) = is ∙ ap₂ (wave q) place part in
       begun-by e _ l₀ room
       (rw (g .is) (put-behind (wave q a i) (drop i l₀) i (e - i) long ys
-      ∙ rw (drop-drop, whole, laid) (sym (append-assoc (wave q a i) (wave q (a + i) (e - i)) (drop e l₀)) ∙ ap (λ (w : List ℕ). w ++ drop e l₀) more)))
+      ∙ rw (drop-drop, whole, is) (sym (append-assoc (wave q a i) (wave q (a + i) (e - i)) (drop e l₀)) ∙ ap (λ (w : List ℕ). w ++ drop e l₀) more)))
 
   pub begun-all : (i : ℕ) (l l₀ : List ℕ) → length l₀ ≤ i → Begun q a i l l₀ → l ≡ wave q a (length l₀)
   begun-all i l l₀ h g =
@@ -203,7 +201,9 @@ module _ (q : Pair) (a : ℕ) where
         → take head (ls ++ drop head s) ++ (ms ++ drop (n - head) (drop head (ls ++ drop head s))) ≡ laid q a s
     on-laid n head ls ms e h is then =
         let first : Begun q a head (ls ++ drop head s) s = begun-by head _ s (omega arith) (ap (λ (w : List ℕ). w ++ drop head s) (head-is head ls (omega arith) is)) in
-        begun-more head n (a + head) _ s ms first h (omega arith) then refl .is ∙ laid-is n e
+        let room : length (take (n - head) (drop head (ls ++ drop head s))) ≡ n - head =
+        length-take-le (n - head) _ (omega (arith, length-drop head (ls ++ drop head s), first .size)) in
+        begun-more head n _ s ms first h (omega arith) (then ∙ ap (wave q (a + head)) room) .is ∙ laid-is n e
 
 -- where the bytes are no more than the period has left
 pub laid-all : (q : Pair) (a : ℕ) (s : List ℕ) → a + length s ≤ period → laid q a s ≡ wave q a (length s)

@@ -49,7 +49,8 @@ fn lay_on(levels: &mut [u8], pair: Pair, from: usize)
     let mut i = 0usize;
     while SUB_PERIOD <= levels.len() - i {
         let end = i + SUB_PERIOD;
-        lay_within(&mut levels[i..end], pair, from + i);
+        let high = high_in(pair, (from + i) / SUB_PERIOD);
+        whole(&mut levels[i..end], ((from + i) % SUB_PERIOD) as u8, high);
         i = end;
     }
     if levels.len() <= i {
@@ -58,34 +59,29 @@ fn lay_on(levels: &mut [u8], pair: Pair, from: usize)
     lay_within(&mut levels[i..], pair, from + i);
 }
 
-// The levels of clocks within one sub-period. One clock, and a whole sub-period, are laid by a number of clocks that is known when this is compiled.
+// The levels of clocks within one sub-period.
 fn lay_within(levels: &mut [u8], pair: Pair, from: usize)
     requires { ⌜ (from < period) × (from % subPeriod + length (now levels) ≤ subPeriod) ⌝ }
     ensures { λ _. ⌜ now (levels .exit) ≡ wave pair from (length (now (levels .entry))) ⌝ }
 {
     let clock = from % SUB_PERIOD;
-    let first = clock as u8;
     let high = high_in(pair, from / SUB_PERIOD);
-    if levels.len() == 1 {
-        lay_clocks(levels, 1, first, high);
-        return;
-    }
     if levels.len() == SUB_PERIOD {
-        lay_clocks(levels, SUB_PERIOD, first, high);
+        whole(levels, clock as u8, high);
         return;
     }
     stretch(levels, clock, high as usize);
 }
 
-// The levels of n clocks of a sub-period, clock by clock. The first clock comes from the caller so that clocks are counted and compared as bytes,
+// The levels of a whole sub-period, clock by clock. The first clock is 0; it comes from the caller so that clocks are counted and compared as bytes,
 // many at a time.
-fn lay_clocks(levels: &mut [u8], n: usize, clock: u8, high: u8)
-    requires { ⌜ (length (now levels) ≡ n) × (clock + n ≤ subPeriod) ⌝ }
-    ensures { λ _. ⌜ now (levels .exit) ≡ pulse clock high n ⌝ }
+fn whole(levels: &mut [u8], clock: u8, high: u8)
+    requires { ⌜ (length (now levels) ≡ subPeriod) × (clock ≡ 0) ⌝ }
+    ensures { λ _. ⌜ now (levels .exit) ≡ pulse 0 high subPeriod ⌝ }
 {
     let mut c = clock;
     let mut i = 0usize;
-    while i < n {
+    while i < SUB_PERIOD {
         levels[i] = level_below(c, high);
         c += 1;
         i += 1;
