@@ -1,4 +1,4 @@
-// Every byte of a lent part set to one value: what the DAC's pulses and the painter's empty line are laid with.
+// Every byte of a lent part set to one value: with it the painter lays what lies outside every cell.
 ghost use mathlib.Core.Path.{_≡_};
 ghost use lib.ListN.{length, replicate};
 

@@ -9,7 +9,7 @@ use native.Mathlib.Nat.{zero-add, suc-add, add-suc, add-zero}
 use native.Mathlib.Decide.{decLt}
 use native.Mathlib.Omega.{arith}
 use lib.Dec.{ltb}
-use lib.ListN.{length, take, drop, replicate, length-append, length-drop, length-replicate}
+use lib.ListN.{length, take, drop, replicate, length-append, length-drop}
 use lib.Seq.{take-at, drop-at, drop-drop, drop-length, length-take-le}
 use borrow.Author.Tests.{ltb-true, ltb-false}
 use Rattle.laws.specs.Pick.{pick}
@@ -125,30 +125,14 @@ module _ (xs s : List ℕ) (i k : ℕ) (long : length xs ≡ i) where
   pub put-behind : (ys : List ℕ) → take i (xs ++ s) ++ (ys ++ drop k (drop i (xs ++ s))) ≡ xs ++ (ys ++ drop k s)
   put-behind ys = rw (take-at xs s i long, drop-at xs s i long)
 
--- the bytes of a stretch, from its two fills
-module _ (s high low : List ℕ) (i x t : ℕ) (turns : t ≡ min (x - i) (length s)) (e : high ≡ replicate (length (take t s)) 1) where
-  high-is : high ≡ replicate t 1
-  high-is = e ∙ ap (λ (n : ℕ). replicate n 1) (length-take-le t s (omega arith))
+-- the levels by how far ahead the turn is, at which they go low
+from-turn : (i x t n : ℕ) → t ≡ x - i → pulse 0 t n ≡ pulse i x n
+unfolding pulse
+from-turn i x t n ahead = let e : t - 0 ≡ x - i = omega arith in rw e
 
-  long-high : length high ≡ t
-  long-high = ap length high-is ∙ length-replicate {A = ℕ} t 1
-
-  left : length (high ++ drop t s) - t ≡ length s - t
-  left = omega (arith, length-append high (drop t s), length-drop t s, long-high)
-
-  then-low : length (take (length s - t) (drop t s)) ≡ length s - (x - i)
-  then-low = omega (arith, length-take-le (length s - t) (drop t s) (omega (arith, length-drop t s)))
-
-  none-left : drop (length s - t) (drop t s) ≡ []
-  none-left = let whole : t + (length s - t) ≡ length s = omega arith in rw (drop-drop, whole) (drop-length s)
-
-  pub filled : low ≡ replicate (length (take (length (high ++ drop t s) - t) (drop t (high ++ drop t s)))) 0
-      → take t (high ++ drop t s) ++ (low ++ drop (length (high ++ drop t s) - t) (drop t (high ++ drop t s))) ≡ pulse i x (length s)
-  unfolding pulse
-  filled f =
-      let low-is : low ≡ replicate (length s - (x - i)) 0 = f ∙ rw (left, behind high (drop t s) t (length s - t) long-high, then-low) in
-      put-behind high (drop t s) t (length (high ++ drop t s) - t) long-high low
-      ∙ rw (left, none-left, append-nil low, low-is, high-is, ← turns)
+pub turned : (i x t n : ℕ) → t ≡ x - i → tabulate n (λ k. levelBelow k t) ≡ pulse i x n
+turned i x t n ahead =
+    sym (pulse-is 0 t n ∙ tabulate-same n _ _ (λ k h. ap (λ (p : ℕ). levelBelow p t) (zero-add k))) ∙ from-turn i x t n ahead
 
 -- l is l₀ with the first i levels of the wave from a position on over it
 pub record Begun (q : Pair) (a i : ℕ) (l l₀ : List ℕ) : Type 0 where

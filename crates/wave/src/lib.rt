@@ -94,13 +94,22 @@ fn level_below(clock: u8, high: u8) -> u8
     if clock < high { 1 } else { 0 }
 }
 
-// Fills the bytes with the levels from a clock of a sub-period on: its high clocks, then its low ones.
+// The levels from a clock of a sub-period on, byte by byte: high up to the turn.
 fn stretch(levels: &mut [u8], clock: usize, high: usize)
     ensures { λ _. ⌜ now (levels .exit) ≡ pulse clock high (length (now (levels .entry))) ⌝ }
 {
-    let turn = least(beyond(high, clock), levels.len());
-    fill::fill(&mut levels[..turn], 1);
-    fill::fill(&mut levels[turn..], 0);
+    let turn = beyond(high, clock);
+    let mut i = 0usize;
+    while i < levels.len() {
+        levels[i] = level_before(i, turn);
+        i += 1;
+    }
+}
+
+fn level_before(i: usize, turn: usize) -> u8
+    ensures { λ r. ⌜ r ≡ levelBelow i turn ⌝ }
+{
+    if i < turn { 1 } else { 0 }
 }
 
 // How many clocks of sub-period n are high.

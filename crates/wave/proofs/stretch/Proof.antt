@@ -1,60 +1,62 @@
--- `wave::stretch` meets its contract: the two fills are the two parts of the pulse.
+-- `wave::stretch` meets its contract: a byte is high before the turn, so the bytes passed have the levels from the clock on.
 -- Assumes nothing.
-use Prim.Native.Nat.{ℕ, _-_, min}
-use mathlib.Core.Path.{_≡_, ap, sym, _∙_}
+use Prim.Native.Nat.{_-_, _≤_}
+use mathlib.Core.Path.{_∙_}
+use mathlib.Core.List.{append-nil}
 use native.Mathlib.Omega.{arith}
 use borrow.Author.Needs.{needs}
-use lib.ListN.{length, take, replicate}
-use lib.Seq.{length-take-le}
-use Rattle.wave.proofs.Within.{filled}
+use lib.ListN.{length}
+use lib.Seq.{drop-length}
+use Rattle.laws.specs.Lists.{tabulate}
+use Rattle.laws.proofs.Lists.{Filled, filled-none, filled-more, filled-all}
+use Rattle.wave.specs.Steps.{levelBelow}
+use Rattle.wave.proofs.Within.{turned}
 use Rattle.wave.proofs.stretch.Statement.{statement}
 use Rattle.wave.proofs.stretch.Tie as tie
 
-beyond-requires : tie.Need-beyond-requires
+abbrev Inv-loop : tie.InvT-loop
+Inv-loop levels₀ clock high turn i₀ levels i = (i ≤ length levels₀) × Filled (λ k. levelBelow k turn) i levels levels₀
+
+abbrev μ-loop : tie.MeasureT-loop
+μ-loop levels₀ clock high turn i₀ levels i = length levels₀ - i
+
+beyond-requires : tie.Need-beyond-requires Inv-loop μ-loop
 beyond-requires c κs = search needs
 
-least-requires : tie.Need-least-requires
-least-requires c κs = search needs
+loop-holds : tie.Need-loop-holds Inv-loop μ-loop
+loop-holds c = (omega arith, filled-none _ _)
 
-slice-relend-prefix-fill : tie.Need-slice-relend-prefix-fill
-slice-relend-prefix-fill c = search needs
+level-before-requires : tie.Need-level-before-requires Inv-loop μ-loop
+level-before-requires c κs = search needs
 
-slice-aggregate-fill : tie.Need-slice-aggregate-fill
-slice-aggregate-fill c =
-    let s = (let p : tie.Start = search in p .args .levels .now) in
-    let turn = (let p : tie.After-least = search in p .least .result) in
-    sym (length-take-le turn s (omega arith))
+slice-write-levels : tie.Need-slice-write-levels Inv-loop μ-loop
+slice-write-levels c = omega arith
 
-fill-requires : tie.Need-fill-requires
-fill-requires c κs = search needs
+add-i : tie.Need-add-i Inv-loop μ-loop
+add-i c = omega arith
 
-sub-fill : tie.Need-sub-fill
-sub-fill c = search needs
+loop-less : tie.Need-loop-less Inv-loop μ-loop
+loop-less c = omega arith
 
-part-fill-start : tie.Need-part-fill-start
-part-fill-start c = search needs
+loop-again : tie.Need-loop-again Inv-loop μ-loop
+loop-again c =
+    let l = (let p : tie.At-loop Inv-loop μ-loop = search in p .loop) in
+    let level = (let p : tie.After-level-before Inv-loop μ-loop = search in p .level-before .ensures) in
+    (omega arith, filled-more _ (l .i) (l .levels) _ _ (omega arith) level (l .inv .1))
 
-part-fill-end : tie.Need-part-fill-end
-part-fill-end c = search needs
+same-length : tie.Need-same-length Inv-loop μ-loop
+same-length c = omega arith
 
-fill-requires-2 : tie.Need-fill-requires-2
-fill-requires-2 c κs = search needs
-
-same-length : tie.Need-same-length
-same-length c = search needs
-
-returns : tie.Need-returns
+returns : tie.Need-returns Inv-loop μ-loop
 returns c =
-    let a = (let p : tie.Start = search in p .args) in
-    let past = (let p : tie.After-beyond = search in p .beyond .ensures) in
-    let turn = (let p : tie.After-least = search in p .least) in
-    let ones = (let p : tie.After-fill = search in p .fill) in
-    let zeros = (let p : tie.After-fill2 = search in p .fill2) in
-    let turns : turn .result ≡ min (a .high - a .clock) (length (a .levels .now)) = turn .ensures ∙ ap (λ (n : ℕ). min n (length (a .levels .now))) past in
-    let high : ones .last .0 ≡ replicate (length (take (turn .result) (a .levels .now))) 1 = ones .ensures in
-    filled (a .levels .now) _ _ (a .clock) (a .high) (turn .result) turns high (zeros .ensures)
+    let a = (let p : tie.Start Inv-loop μ-loop = search in p .args) in
+    let turn = (let p : tie.After-beyond Inv-loop μ-loop = search in p .beyond) in
+    let l = (let p : tie.At-loop Inv-loop μ-loop = search in p .loop) in
+    let s = a .levels .now in
+    filled-all _ (length s) (l .i) (l .levels) s (omega arith) (omega arith) (l .inv .1)
+    ∙ rw (drop-length s) (append-nil (tabulate (length s) (λ k. levelBelow k (turn .result))))
+    ∙ turned (a .clock) (a .high) (turn .result) (length s) (turn .ensures)
 
 pub stretch-spec : {M : Type 1} → statement M
 stretch-spec =
-    tie.close
-    (tie.spec beyond-requires least-requires slice-relend-prefix-fill slice-aggregate-fill fill-requires sub-fill part-fill-start part-fill-end fill-requires-2 same-length returns)
+    tie.close (tie.spec Inv-loop μ-loop beyond-requires loop-holds level-before-requires slice-write-levels add-i loop-less loop-again same-length returns)

@@ -1,17 +1,16 @@
 -- `wave::whole` meets its contract: the clock compared is the byte's place, so the bytes passed have the sub-period's levels.
 -- Assumes nothing.
-use Prim.Native.Nat.{ℕ, _+_, _-_, _≤_}
+use Prim.Native.Nat.{ℕ, _-_, _≤_}
 use mathlib.Core.Path.{_≡_, ap, sym, _∙_}
-use mathlib.Core.List.{_++_, append-nil}
-use native.Mathlib.Nat.{zero-add}
+use mathlib.Core.List.{append-nil}
 use native.Mathlib.Omega.{arith}
 use borrow.Author.Needs.{needs}
 use lib.ListN.{length, drop}
 use lib.Seq.{drop-length}
 use Rattle.laws.specs.Lists.{tabulate}
-use Rattle.laws.proofs.Lists.{Filled, filled-none, filled-more, filled-all, tabulate-same}
+use Rattle.laws.proofs.Lists.{Filled, filled-none, filled-more, filled-all}
 use Rattle.wave.specs.Steps.{levelBelow}
-use Rattle.wave.proofs.Within.{pulse-is}
+use Rattle.wave.proofs.Within.{turned}
 use Rattle.wave.proofs.whole.Statement.{statement}
 use Rattle.wave.proofs.whole.Tie as tie
 
@@ -59,7 +58,7 @@ returns c =
     let none : drop 128 s ≡ drop (length s) s = ap (λ (n : ℕ). drop n s) (sym all) in
     filled-all _ 128 (l .i) (l .levels) s (omega arith) (omega arith) (l .inv .2)
     ∙ rw (none, drop-length s) (append-nil (tabulate 128 (λ k. levelBelow k high)))
-    ∙ sym (pulse-is 0 high 128 ∙ tabulate-same 128 _ _ (λ k h. ap (λ (n : ℕ). levelBelow n high) (zero-add k)))
+    ∙ turned 0 high high 128 (omega arith)
 
 pub whole-spec : {M : Type 1} → statement M
 whole-spec =
