@@ -11,11 +11,11 @@ use Rattle.laws.proofs.Lists.{length-tabulate}
 use Rattle.hex.specs.Digits.{digit, bytesFrom}
 use Rattle.hex.specs.Lines.{lines, atEnd}
 use Rattle.hex.specs.Records.{spelledBy, sumOf}
-use Rattle.hex.specs.Steps.{Parsed, Decoded, pastEnd, endLength, recordAt, nextAt, lineAt}
+use Rattle.hex.specs.Steps.{Parsed, Decoded, spelledAt, pastEnd, endLength, recordAt, nextAt, lineAt}
 use Rattle.hex.specs.declared.Line.the-variants.{Shaped, Unshaped}
 use Rattle.hex.proofs.Lines.{first-cut, end-fits}
-use Rattle.hex.proofs.Steps.{sum-good, sum-digits, past-some, past-ends}
-use Rattle.hex.proofs.Shape.{sizeAt, Shape, bodySize, body-fits, body-plain, body-after, body-ends, shape-is, shape-spells, unshaped}
+use Rattle.hex.proofs.Steps.{spelled-byte, spelled-digits, sum-good, sum-digits, past-some, past-ends}
+use Rattle.hex.proofs.Shape.{sizeAt, Shape, digit-here, bodySize, body-fits, body-plain, body-after, body-ends, shape-is, shape-spells, unshaped}
 
 -- a line that fails a test
 pub not-shaped : (text : List ℕ) (place : ℕ) (bytes : List ℕ) → (Shape text place → ⊥) → Parsed text place bytes Unshaped
@@ -58,6 +58,20 @@ module _ (text : List ℕ) (place : ℕ) (here : place < length text) where
     pub next-here : nextAt text place ≡ place + 1 + 2 * sizeAt text place + endLength (drop (place + 1 + 2 * sizeAt text place) text)
     unfolding line-size
     next-here = omega (arith, next-is, ap endLength (body-after text place shape))
+
+-- the length that a line begins with
+module _ (text : List ℕ) (place : ℕ) {length : ℕ} (spelled : length ≡ spelledAt text (place + 1)) where
+  pub no-length : 255 < length → Shape text place → ⊥
+  no-length h shape =
+      let high = digit-here text place shape (place + 1) (omega arith) (omega arith) in
+      let low = digit-here text place shape (place + 1 + 1) (omega arith) (omega arith) in
+      omega (arith, spelled, high, low, spelled-byte text (place + 1) high low)
+
+  pub length-is : length < 256 → 5 + length ≡ sizeAt text place
+  length-is h =
+      let (high, low) = spelled-digits text (place + 1) (omega arith) in
+      let second : place + 1 + 1 ≡ place + 2 = omega arith in
+      ap (λ n. 5 + n) (spelled ∙ spelled-byte text (place + 1) high low) ∙ ap (λ k. 5 + (16 * digit (getD text (place + 1) 0) + digit (getD text k 0))) second
 
 -- the reader's tests: n bytes are asked for, and within the text
 pub record Asked (text : List ℕ) (place n : ℕ) : Type 0 where

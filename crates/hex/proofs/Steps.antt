@@ -4,7 +4,7 @@ use mathlib.Core.Path.{_≡_, refl, sym, _∙_, ap}
 use mathlib.Core.Bool.{Bool, true, false, false≢true}
 use mathlib.Core.List.{List}
 use Prim.Native.Nat.{ℕ, suc, _+_, _-_, _*_, _%_, _<_, _≤_}
-use native.Mathlib.Nat.{mod-add-mod, add-zero}
+use native.Mathlib.Nat.{mod-add-mod, add-zero, add-assoc}
 use native.Mathlib.Decide.{ℕ-discrete, decLt}
 use native.Mathlib.Omega.{arith}
 use mir.Syntax.{w8}
@@ -14,18 +14,19 @@ use lib.Dec.{eqb, ltb}
 use lib.ListN.{length, getD, set, take, drop, length-drop, length-set, drop-of-length-le}
 use lib.Seq.{drop-cons, getD-drop, getD-take, take-at, length-take-le, getD-set-same, getD-set-other}
 use borrow.Author.Count.{below-more}
-use borrow.Author.Tests.{eq-eqb, ne-eqb}
+use borrow.Author.Tests.{eq-eqb, ne-eqb, lt-ltb, le-ltb, ltb-true}
 use Rattle.laws.specs.Pick.{pick, both}
 use Rattle.laws.specs.Lists.{tabulate, firstOf}
 use Rattle.laws.specs.Placing.{patched}
 use Rattle.laws.specs.Sums.{sumAll}
+use Rattle.laws.proofs.Both.{both-parts, none-left, none-right}
 use Rattle.laws.proofs.Lists.{getD-tabulate, length-tabulate, Filled, filled-none, filled-more, filled-all, is-tabulate, first-none, first-before}
 use Rattle.laws.proofs.Patched.{patched-none, patched-here, patched-other, patched-out}
 use Rattle.laws.proofs.Sums.{sum-tabulate}
 use Rattle.hex.specs.Digits.{digit, byteAt, bytesFrom}
 use Rattle.hex.specs.Lines.{atEnd}
 use Rattle.hex.specs.Records.{allDigits}
-use Rattle.hex.specs.Steps.{Decoded, Stored, digitTable, sumFrom, pastEnd, endLength, storedAt, isFresh}
+use Rattle.hex.specs.Steps.{Decoded, Stored, digitTable, spelledAt, sumFrom, pastEnd, endLength, storedAt, isFresh}
 use Rattle.hex.proofs.Shape.{digits-at, digits-all}
 
 -- what the table tells of the bytes of a text
@@ -35,6 +36,29 @@ table-tells digits text e small k = ap (λ l. getD l (getD text k 0) 0) e ∙ ge
 -- and that it has a place for each of them
 pub table-holds : (digits text : List ℕ) → digits ≡ digitTable → Fit (fInt w8) 0 text → (k : ℕ) → getD text k 0 < length digits
 table-holds digits text e small k = omega (arith, small k, ap length e, length-tabulate 256 digit)
+
+-- the two digits at a place of the text
+module _ (text : List ℕ) (place : ℕ) where
+  pub spelled-byte : digit (getD text place 0) < 16 → digit (getD text (place + 1) 0) < 16 → spelledAt text place ≡ byteAt text place
+  unfolding spelledAt
+  spelled-byte high low = simp (lt-ltb _ 16 high, lt-ltb _ 16 low)
+
+  pub spelled-high : 16 ≤ digit (getD text place 0) → spelledAt text place ≡ 256
+  unfolding spelledAt
+  spelled-high h = rw (none-left _ (ltb (digit (getD text (place + 1) 0)) 16) (le-ltb (digit (getD text place 0)) 16 h))
+
+  pub spelled-low : 16 ≤ digit (getD text (place + 1) 0) → spelledAt text place ≡ 256
+  unfolding spelledAt
+  spelled-low h = rw (none-right (ltb (digit (getD text place 0)) 16) _ (le-ltb (digit (getD text (place + 1) 0)) 16 h))
+
+  pub spelled-digits : spelledAt text place < 256 → (digit (getD text place 0) < 16) × (digit (getD text (place + 1) 0) < 16)
+  unfolding spelledAt
+  spelled-digits h = go (both (ltb (digit (getD text place 0)) 16) (ltb (digit (getD text (place + 1) 0)) 16)) refl h
+    where
+      go : (b : Bool) → both (ltb (digit (getD text place 0)) 16) (ltb (digit (getD text (place + 1) 0)) 16) ≡ b → pick b (byteAt text place) 256 < 256
+          → (digit (getD text place 0) < 16) × (digit (getD text (place + 1) 0) < 16)
+      go true e h = let parts = both-parts _ _ e in (ltb-true _ _ (parts .0), ltb-true _ _ (parts .1))
+      go false e h = absurd (omega arith)
 
 -- the end of a line at a place of the text
 module _ (text : List ℕ) (place : ℕ) where
@@ -85,14 +109,6 @@ module _ (text : List ℕ) (place n : ℕ) (fits : place + 2 * n ≤ length text
   unfolding sumFrom
   sum-good h = rw (front-digits h)
 
-  pub sum-bad : (k : ℕ) → k < 2 * n → 16 ≤ digit (getD text (place + k) 0) → sumFrom text place n ≡ 256
-  unfolding sumFrom
-  sum-bad k h g = go (allDigits (take (2 * n) (drop place text))) refl
-    where
-      go : (b : Bool) → allDigits (take (2 * n) (drop place text)) ≡ b → pick b (sumAll (bytesFrom text place n) % 256) 256 ≡ 256
-      go true e = absurd (omega (arith, digits-at _ e k (omega (arith, front-length)), ap digit (front-at k h)))
-      go false e = refl
-
   pub sum-digits : sumFrom text place n < 256 → (k : ℕ) → k < 2 * n → digit (getD text (place + k) 0) < 16
   unfolding sumFrom
   sum-digits s k h = go (allDigits (take (2 * n) (drop place text))) refl s
@@ -101,6 +117,21 @@ module _ (text : List ℕ) (place n : ℕ) (fits : place + 2 * n ≤ length text
           → digit (getD text (place + k) 0) < 16
       go true e s = omega (arith, digits-at _ e k (omega (arith, front-length)), ap digit (front-at k h))
       go false e s = absurd (omega arith)
+
+  -- two of them that are not both digits
+  pub sum-none : (i : ℕ) → i < n → 255 < spelledAt text (place + 2 * i) → sumFrom text place n ≡ 256
+  unfolding sumFrom
+  sum-none i h bad = go (allDigits (take (2 * n) (drop place text))) refl
+    where
+      at : allDigits (take (2 * n) (drop place text)) ≡ true → (k : ℕ) → k < 2 * n → digit (getD text (place + k) 0) < 16
+      at e k l = omega (arith, digits-at _ e k (omega (arith, front-length)), ap digit (front-at k l))
+
+      go : (b : Bool) → allDigits (take (2 * n) (drop place text)) ≡ b → pick b (sumAll (bytesFrom text place n) % 256) 256 ≡ 256
+      go true e =
+          let high = at e (2 * i) (omega arith) in
+          let low : digit (getD text (place + 2 * i + 1) 0) < 16 = rw (add-assoc place (2 * i) 1) (at e (2 * i + 1) (omega arith)) in
+          absurd (omega (arith, spelled-byte text (place + 2 * i) high low))
+      go false e = refl
 
 -- two digits more
 digits-more : (text : List ℕ) (place i : ℕ) → ((k : ℕ) → k < 2 * i → digit (getD text (place + k) 0) < 16)
@@ -125,12 +156,14 @@ module _ (text : List ℕ) (from : ℕ) (bytes₀ : List ℕ) where
   decoding-none = record { filled = filled-none _ bytes₀; summed = refl; digits = λ k h. absurd (omega arith) }
 
   module _ {i : ℕ} {bytes : List ℕ} {sum : ℕ} (so-far : Decoding text from bytes₀ i bytes sum) where
-    pub decoding-more : (byte sum′ : ℕ) → i < length bytes₀ → byte ≡ byteAt text (from + 2 * i) → digit (getD text (from + 2 * i) 0) < 16
-        → digit (getD text (from + 2 * i + 1) 0) < 16 → sum′ ≡ (sum + byte) % 256 → Decoding text from bytes₀ (i + 1) (set bytes i byte) sum′
-    decoding-more byte sum′ h e high low added =
+    pub decoding-more : (byte sum′ : ℕ) → i < length bytes₀ → byte ≡ spelledAt text (from + 2 * i) → byte < 256 → sum′ ≡ (sum + byte) % 256
+        → Decoding text from bytes₀ (i + 1) (set bytes i byte) sum′
+    decoding-more byte sum′ h e small added =
+        let (high, low) = spelled-digits text (from + 2 * i) (omega arith) in
+        let is : byte ≡ byteAt text (from + 2 * i) = e ∙ spelled-byte text (from + 2 * i) high low in
         record {
-          filled = filled-more _ i bytes bytes₀ byte h e (so-far .filled);
-          summed = sum-more i (λ k. byteAt text (from + 2 * k)) sum byte sum′ (so-far .summed) e added;
+          filled = filled-more _ i bytes bytes₀ byte h is (so-far .filled);
+          summed = sum-more i (λ k. byteAt text (from + 2 * k)) sum byte sum′ (so-far .summed) is added;
           digits = digits-more text from i (so-far .digits) high low;
         }
 
@@ -142,12 +175,10 @@ module _ (text : List ℕ) (from : ℕ) (bytes₀ : List ℕ) where
           front = λ h. ap (take n) (filled-all _ n i bytes bytes₀ e room (so-far .filled)) ∙ take-at _ _ n (length-tabulate n _);
         }
 
--- one of their digits is none
-pub decoded-none : (text : List ℕ) (from n : ℕ) (bytes : List ℕ) (place : ℕ) → from + 2 * n ≤ length text → from ≤ place → place < from + 2 * n
-    → 16 ≤ digit (getD text place 0) → Decoded text from n bytes 256
-decoded-none text from n bytes place reaches l h bad =
-    let e : from + (place - from) ≡ place = omega arith in
-    record { summed = sym (sum-bad text from n reaches (place - from) (omega arith) (rw e bad)); front = λ g. absurd (omega arith) }
+-- two of their digits spell no byte
+pub decoded-none : (text : List ℕ) (from n : ℕ) (bytes : List ℕ) (i : ℕ) → from + 2 * n ≤ length text → i < n → 255 < spelledAt text (from + 2 * i)
+    → Decoded text from n bytes 256
+decoded-none text from n bytes i reaches h bad = record { summed = sym (sum-none text from n reaches i h bad); front = λ g. absurd (omega arith) }
 
 -- whether none of i + 1 numbers passes a test: not where the last does, and else as for those before it
 module _ (i : ℕ) (test : ℕ → Bool) where

@@ -7,12 +7,12 @@ use mathlib.Core.Bool.{Bool, true}
 use mathlib.Core.List.{List, [], _∷_, _++_}
 use lib.Dec.{eqb, ltb}
 use lib.ListN.{length, getD, take, drop, replicate}
-use Rattle.laws.specs.Pick.{pick}
+use Rattle.laws.specs.Pick.{pick, both}
 use Rattle.laws.specs.Lists.{tabulate, firstOf}
 use Rattle.laws.specs.Placing.{patched}
 use Rattle.laws.specs.Sums.{sumAll}
 use Rattle.image.specs.Image.{imageBytes, unused}
-use Rattle.hex.specs.Digits.{digit, bytesFrom}
+use Rattle.hex.specs.Digits.{digit, byteAt, bytesFrom}
 use Rattle.hex.specs.Lines.{lines, bodyOf, atEnd, LF}
 use Rattle.hex.specs.Records.{frame, isShaped, recordOf, records, byteIn, allDigits, sumOf}
 use Rattle.hex.specs.Reading.{mostText, said, verdict}
@@ -27,6 +27,10 @@ recordMost = frame + 255
 -- the value of each byte as a digit
 abbrev pub digitTable : List ℕ
 digitTable = tabulate 256 digit
+
+-- the byte that the two digits at a place spell, or 256 where one of them is no digit
+unfoldable pub spelledAt : List ℕ → ℕ → ℕ
+spelledAt text place = pick (both (ltb (digit (getD text place 0)) 16) (ltb (digit (getD text (place + 1) 0)) 16)) (byteAt text place) 256
 
 -- the eight-bit sum of n bytes from a place on, two digits each, or 256 where they are not all digits
 unfoldable pub sumFrom : List ℕ → ℕ → ℕ → ℕ
@@ -97,6 +101,10 @@ pub record ToDecode (digits text : List ℕ) (from n : ℕ) (bytes : List ℕ) :
 pub record Decoded (text : List ℕ) (from n : ℕ) (bytes : List ℕ) (sum : ℕ) : Type 0 where
   pub summed : sum ≡ sumFrom text from n
   pub front : sum < 256 → take n bytes ≡ bytesFrom text from n
+
+pub record ToSpell (digits text : List ℕ) (place : ℕ) : Type 0 where
+  pub table : digits ≡ digitTable
+  pub reaches : place + 2 ≤ length text
 
 pub record ToStore (bytes : List ℕ) (n address : ℕ) (scratch : List ℕ) : Type 0 where
   pub held : 4 + n ≤ length bytes

@@ -6,7 +6,7 @@ ghost use lib.ListN.{length, getD, drop};
 ghost use Rattle.laws.specs.Lists.{tabulate};
 ghost use Rattle.image.specs.Image.{imageBytes};
 ghost use Rattle.hex.specs.Reading.{mostText, answerOf, leftOf, said};
-ghost use Rattle.hex.specs.Steps.{ToCollect, Collected, ToParse, Parsed, ToDecode, Decoded, ToStore, Stored, pastEnd, byteOf};
+ghost use Rattle.hex.specs.Steps.{ToCollect, Collected, ToParse, Parsed, ToDecode, Decoded, ToSpell, spelledAt, ToStore, Stored, pastEnd, byteOf};
 
 mod digits;
 
@@ -141,15 +141,11 @@ fn parse(digits: &[u8], text: &[u8], at: usize, bytes: &mut [u8]) -> Line
     if text[at] != COLON {
         return Line::Unshaped;
     }
-    let high = digits[text[at + 1] as usize];
-    if 15 < high {
+    let length = byte_at(digits, text, at + 1);
+    if 255 < length {
         return Line::Unshaped;
     }
-    let low = digits[text[at + 2] as usize];
-    if 15 < low {
-        return Line::Unshaped;
-    }
-    let n = FRAME + (16 * high + low) as usize;
+    let n = FRAME + length as usize;
     let end = at + 1 + 2 * n;
     if text.len() < end {
         return Line::Unshaped;
@@ -174,20 +170,32 @@ fn decode(digits: &[u8], text: &[u8], from: usize, n: usize, bytes: &mut [u8]) -
     let mut sum = 0u8;
     let mut i = 0usize;
     while i < n {
-        let high = digits[text[from + 2 * i] as usize];
-        if 15 < high {
+        let spelled = byte_at(digits, text, from + 2 * i);
+        if 255 < spelled {
             return 256;
         }
-        let low = digits[text[from + 2 * i + 1] as usize];
-        if 15 < low {
-            return 256;
-        }
-        let byte = 16 * high + low;
+        let byte = spelled as u8;
         sum = std::num::wrapping_add_u8(sum, byte);
         bytes[i] = byte;
         i += 1;
     }
     sum as u16
+}
+
+// The byte that the two digits at a place spell, or 256 where one of them is no digit.
+fn byte_at(digits: &[u8], text: &[u8], place: usize) -> u16
+    requires { ⌜ ToSpell (now digits) (now text) place ⌝ }
+    ensures { λ r. ⌜ r ≡ spelledAt (now (text .entry)) place ⌝ }
+{
+    let high = digits[text[place] as usize];
+    if 15 < high {
+        return 256;
+    }
+    let low = digits[text[place + 1] as usize];
+    if 15 < low {
+        return 256;
+    }
+    (16 * high + low) as u16
 }
 
 // Where the line after a line's end starts, or 0 where no end stands there.

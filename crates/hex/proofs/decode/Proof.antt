@@ -1,12 +1,9 @@
 -- `hex::decode` meets its contract: the bytes passed are decoded and summed, and all their digits are digits; the measure is what is left of them.
 -- Assumes nothing.
-use mir.Syntax.{w8}
-use borrow.Table.Referent.{fInt}
-use borrow.Rule.Slice.Know.{Fit}
 use borrow.Author.Needs.{needs}
-use Rattle.hex.proofs.Steps.{table-tells, table-holds, Decoding, decoding-none, decoding-more, decoding-all, decoded-none}
+use Rattle.hex.proofs.Steps.{Decoding, decoding-none, decoding-more, decoding-all, decoded-none}
 use native.Mathlib.Omega.{arith}
-use Prim.Native.Nat.{_≤_, _-_, _+_, _*_}
+use Prim.Native.Nat.{_≤_, _-_}
 use Rattle.hex.proofs.decode.Statement.{statement}
 use Rattle.hex.proofs.decode.Tie as tie
 
@@ -19,27 +16,14 @@ abbrev μ-loop : tie.MeasureT-loop
 loop-holds : tie.Need-loop-holds Inv-loop μ-loop
 loop-holds c = (omega arith, decoding-none _ _ _)
 
-mul-high : tie.Need-mul-high Inv-loop μ-loop
-mul-high c = omega arith
+mul-byte-at : tie.Need-mul-byte-at Inv-loop μ-loop
+mul-byte-at c = omega arith
 
-add-high : tie.Need-add-high Inv-loop μ-loop
-add-high c = omega arith
+add-byte-at : tie.Need-add-byte-at Inv-loop μ-loop
+add-byte-at c = omega arith
 
-shared-slice-read-high : tie.Need-shared-slice-read-high Inv-loop μ-loop
-shared-slice-read-high c = omega arith
-
-cast-high : tie.Need-cast-high Inv-loop μ-loop
-cast-high c =
-    let a = (let s : tie.Start Inv-loop μ-loop = search in s .args) in
-    let turn = (let h : tie.At-loop Inv-loop μ-loop = search in h .loop) in
-    let fits : Fit (fInt w8) 0 (a .text .now) = search in
-    omega (arith, fits (a .from + 2 * turn .i))
-
-shared-slice-read-high-2 : tie.Need-shared-slice-read-high-2 Inv-loop μ-loop
-shared-slice-read-high-2 c =
-    let a = (let s : tie.Start Inv-loop μ-loop = search in s .args) in
-    let fits : Fit (fInt w8) 0 (a .text .now) = search in
-    table-holds (a .digits .now) (a .text .now) (let s : tie.Start Inv-loop μ-loop = search in s .pre .table) fits _
+byte-at-requires : tie.Need-byte-at-requires Inv-loop μ-loop
+byte-at-requires c κs = record { table = (let s : tie.Start Inv-loop μ-loop = search in s .pre .table); reaches = omega arith }
 
 same-length : tie.Need-same-length Inv-loop μ-loop
 same-length c = omega arith
@@ -48,51 +32,11 @@ returns : tie.Need-returns Inv-loop μ-loop
 returns c =
     let a = (let s : tie.Start Inv-loop μ-loop = search in s .args) in
     let turn = (let h : tie.At-loop Inv-loop μ-loop = search in h .loop) in
-    let fits : Fit (fInt w8) 0 (a .text .now) = search in
-    let tells = table-tells (a .digits .now) (a .text .now) (let s : tie.Start Inv-loop μ-loop = search in s .pre .table) fits in
-    decoded-none (a .text .now) (a .from) (a .n) _ (a .from + 2 * turn .i) (omega arith) (omega arith) (omega arith) (omega (arith, tells (a .from + 2 * turn .i)))
+    let spelled = (let p : tie.After-byte-at Inv-loop μ-loop = search in p .byte-at .ensures) in
+    decoded-none (a .text .now) (a .from) (a .n) _ (turn .i) (omega arith) (omega arith) (omega (arith, spelled))
 
-mul-low : tie.Need-mul-low Inv-loop μ-loop
-mul-low c = omega arith
-
-add-low : tie.Need-add-low Inv-loop μ-loop
-add-low c = omega arith
-
-add-low-2 : tie.Need-add-low-2 Inv-loop μ-loop
-add-low-2 c = omega arith
-
-shared-slice-read-low : tie.Need-shared-slice-read-low Inv-loop μ-loop
-shared-slice-read-low c = omega arith
-
-cast-low : tie.Need-cast-low Inv-loop μ-loop
-cast-low c =
-    let a = (let s : tie.Start Inv-loop μ-loop = search in s .args) in
-    let turn = (let h : tie.At-loop Inv-loop μ-loop = search in h .loop) in
-    let fits : Fit (fInt w8) 0 (a .text .now) = search in
-    omega (arith, fits (a .from + 2 * turn .i + 1))
-
-shared-slice-read-low-2 : tie.Need-shared-slice-read-low-2 Inv-loop μ-loop
-shared-slice-read-low-2 c =
-    let a = (let s : tie.Start Inv-loop μ-loop = search in s .args) in
-    let fits : Fit (fInt w8) 0 (a .text .now) = search in
-    table-holds (a .digits .now) (a .text .now) (let s : tie.Start Inv-loop μ-loop = search in s .pre .table) fits _
-
-same-length-2 : tie.Need-same-length-2 Inv-loop μ-loop
-same-length-2 c = omega arith
-
-returns-2 : tie.Need-returns-2 Inv-loop μ-loop
-returns-2 c =
-    let a = (let s : tie.Start Inv-loop μ-loop = search in s .args) in
-    let turn = (let h : tie.At-loop Inv-loop μ-loop = search in h .loop) in
-    let fits : Fit (fInt w8) 0 (a .text .now) = search in
-    let tells = table-tells (a .digits .now) (a .text .now) (let s : tie.Start Inv-loop μ-loop = search in s .pre .table) fits in
-    decoded-none (a .text .now) (a .from) (a .n) _ (a .from + 2 * turn .i + 1) (omega arith) (omega arith) (omega arith) (omega (arith, tells (a .from + 2 * turn .i + 1)))
-
-mul-byte : tie.Need-mul-byte Inv-loop μ-loop
-mul-byte c = omega arith
-
-add-byte : tie.Need-add-byte Inv-loop μ-loop
-add-byte c = omega arith
+cast-byte : tie.Need-cast-byte Inv-loop μ-loop
+cast-byte c = omega arith
 
 wrapping-add-u8-requires : tie.Need-wrapping-add-u8-requires Inv-loop μ-loop
 wrapping-add-u8-requires c κs = search needs
@@ -108,22 +52,18 @@ loop-less c = omega arith
 
 loop-again : tie.Need-loop-again Inv-loop μ-loop
 loop-again c =
-    let a = (let s : tie.Start Inv-loop μ-loop = search in s .args) in
     let turn = (let h : tie.At-loop Inv-loop μ-loop = search in h .loop) in
-    let fits : Fit (fInt w8) 0 (a .text .now) = search in
-    let tells = table-tells (a .digits .now) (a .text .now) (let s : tie.Start Inv-loop μ-loop = search in s .pre .table) fits in
-    let high = tells (a .from + 2 * turn .i) in
-    let low = tells (a .from + 2 * turn .i + 1) in
-    (omega arith, decoding-more _ _ _ (turn .inv .1) _ _ (omega arith) (omega arith) (omega arith) (omega arith) (omega arith))
+    let spelled = (let p : tie.After-byte-at Inv-loop μ-loop = search in p .byte-at .ensures) in
+    (omega arith, decoding-more _ _ _ (turn .inv .1) _ _ (omega arith) (omega (arith, spelled)) (omega arith) (omega arith))
 
 cast-result : tie.Need-cast-result Inv-loop μ-loop
 cast-result c = omega arith
 
-same-length-3 : tie.Need-same-length-3 Inv-loop μ-loop
-same-length-3 c = omega arith
+same-length-2 : tie.Need-same-length-2 Inv-loop μ-loop
+same-length-2 c = omega arith
 
-returns-3 : tie.Need-returns-3 Inv-loop μ-loop
-returns-3 c =
+returns-2 : tie.Need-returns-2 Inv-loop μ-loop
+returns-2 c =
     let a = (let s : tie.Start Inv-loop μ-loop = search in s .args) in
     let turn = (let h : tie.At-loop Inv-loop μ-loop = search in h .loop) in
     decoding-all _ _ _ (turn .inv .1) (a .n) (omega arith) (omega arith) (omega arith)
@@ -135,28 +75,17 @@ decode-spec =
     Inv-loop
     μ-loop
     loop-holds
-    mul-high
-    add-high
-    shared-slice-read-high
-    cast-high
-    shared-slice-read-high-2
+    mul-byte-at
+    add-byte-at
+    byte-at-requires
     same-length
     returns
-    mul-low
-    add-low
-    add-low-2
-    shared-slice-read-low
-    cast-low
-    shared-slice-read-low-2
-    same-length-2
-    returns-2
-    mul-byte
-    add-byte
+    cast-byte
     wrapping-add-u8-requires
     slice-write-bytes
     add-i
     loop-less
     loop-again
     cast-result
-    same-length-3
-    returns-3)
+    same-length-2
+    returns-2)
