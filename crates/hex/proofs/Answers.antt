@@ -5,6 +5,7 @@ use mathlib.Core.Path.{_≡_, sym, _∙_, ap}
 use mathlib.Core.Bool.{Bool, true, false}
 use mathlib.Core.List.{List, [], _∷_, _++_}
 use Prim.Native.Nat.{ℕ, _+_, _*_, _<_, _≤_}
+use native.Mathlib.Decide.{ℕ-discrete, decLt}
 use native.Mathlib.Omega.{arith}
 use native.Mathlib.Numerals.{add-one}
 use mir.Syntax.{w8}
@@ -13,7 +14,7 @@ use borrow.Rule.Slice.Know.{Fit}
 use lib.Dec.{ltb}
 use lib.ListN.{length, getD, take, drop}
 use lib.Seq.{take-all, take-suc}
-use borrow.Author.Tests.{eqb-true, eqb-false, le-leb, le-ltb}
+use borrow.Author.Tests.{eqb-true, eqb-false, le-leb, le-ltb, lt-ltb}
 use Rattle.laws.specs.Pick.{pick}
 use Rattle.laws.specs.Said.{accepted, refused}
 use Rattle.laws.specs.Lists.{tabulate, firstOf}
@@ -22,11 +23,12 @@ use Rattle.laws.proofs.Said.{said-by}
 use Rattle.hex.specs.Lines.{bodyOf}
 use Rattle.hex.specs.Records.{records, isShaped, lengthOf, addressOf, typeOf, sumOf, isEnd, freshIn, faultOf, byteIn, gives, dataAt}
 use Rattle.hex.specs.Reading.{said, verdict}
-use Rattle.hex.specs.Steps.{Collected, Parsed, Stored, recordAt, nextAt, lineAt}
+use Rattle.hex.specs.Steps.{Collected, Parsed, Stored, recordAt, nextAt, lineAt, endedBy}
 use Rattle.hex.specs.declared.Line.{Line}
 use Rattle.hex.specs.declared.Line.the-variants.{Shaped, Unshaped}
 use Rattle.hex.specs.declared.Outcome.{Outcome}
 use Rattle.hex.proofs.Faults.{fault-shape, is-end, other-type, long-end, far-end, fault-sum, fault-type, fault-end, fault-past, fault-twice, fault-none}
+use Rattle.hex.proofs.Steps.{ended-long, ended-far, ended-more, ended-done}
 use Rattle.hex.proofs.Given.{front-at, in-append, in-one}
 use Rattle.hex.proofs.Passed.{Passed, line-shaped, line-unshaped, verdict-over, k-below, record-here, whole-here, next-fits, is-last, not-last, verdict-fault, verdict-more, verdict-done, fresh-here, passed-more}
 
@@ -205,35 +207,39 @@ module _ {text : List ℕ} {at count : ℕ} {scratch bytes : List ℕ} {sum next
   abbrev n : ℕ
   n = getD bytes 0 0
 
-  abbrev address : ℕ
-  address = 256 * getD bytes 1 0 + getD bytes 2 0
-
   abbrev kind : ℕ
   kind = getD bytes 3 0
-
-  pub said-long-end : (sum ≡ 0) × (kind ≡ 1) × (n ≡ 0 → ⊥) → refused 9 at ≡ verdict text
-  said-long-end (z, k, h) = met-long-end z k h
-
-  pub said-far-end : (sum ≡ 0) × (kind ≡ 1) × (n ≡ 0) × (address ≡ 0 → ⊥) → refused 9 at ≡ verdict text
-  said-far-end (z, k, e, h) = met-far-end z k e h
-
-  pub said-more : (sum ≡ 0) × (kind ≡ 1) × (n ≡ 0) × (address ≡ 0) × (next < length text) → refused 12 next ≡ verdict text
-  said-more (z, k, e, a, h) = met-more z k e a h
-
-  pub said-done : (sum ≡ 0) × (kind ≡ 1) × (n ≡ 0) × (address ≡ 0) × (length text ≤ next)
-      → {x : Outcome} → (said x .number ≡ 0) × (said x .place ≡ 0) × (said x .value ≡ count) → Collected text scratch x
-  said-done (z, k, e, a, h) (number, place, value) = record { says = said-by (met-done z k e a h) number place value; held = λ d. met-all z k e a h }
 
   pub said-type : (sum ≡ 0) × (kind ≡ 1 → ⊥) × (kind ≡ 0 → ⊥) → refused 9 at ≡ verdict text
   said-type (z, k, h) = met-type z k h
 
-  pub said-past : (sum ≡ 0) × (kind ≡ 1 → ⊥) × (kind ≡ 0) × (8192 < address + n) → refused 10 at ≡ verdict text
-  said-past (z, k, d, h) = met-past z k d h
+  -- with the address that it reads
+  module _ {address : ℕ} (reads : address ≡ addressOf bytes) where
+    pub said-ended : (place after : ℕ) (more : Bool) (x : Outcome) → (sum ≡ 0) × (kind ≡ 1) × (place ≡ at) × (after ≡ next) → more ≡ ltb next (length text)
+        → x ≡ endedBy n address place more after count → Collected text scratch x
+    said-ended place after more x (z, k, here, there) follows is = go (ℕ-discrete n 0) (ℕ-discrete address 0) (decLt next (length text))
+      where
+        go : Dec (n ≡ 0) → Dec (address ≡ 0) → Dec (next < length text) → Collected text scratch x
+        go (no d) _ _ = rw (is ∙ ended-long n address place more after count d) (refused-by (met-long-end z k d) (omega arith))
+        go (yes e) (no d) _ =
+            rw (is ∙ ended-far n address place more after count e d) (refused-by (met-far-end z k e (λ a. d (reads ∙ a))) (omega arith))
+        go (yes e) (yes a) (yes l) =
+            rw (is ∙ ended-more n address place more after count e a (follows ∙ lt-ltb next (length text) l))
+            (refused-by (met-more z k e (sym reads ∙ a) l) (omega arith))
+        go (yes e) (yes a) (no l) =
+            rw (is ∙ ended-done n address place more after count e a (follows ∙ le-ltb next (length text) (omega arith)))
+            (record { says = met-done z k e (sym reads ∙ a) (omega arith); held = λ d. met-all z k e (sym reads ∙ a) (omega arith) })
 
-  pub said-twice : {after : List ℕ} {fresh : Bool} → Stored bytes n address scratch after fresh
-      → (sum ≡ 0) × (kind ≡ 1 → ⊥) × (kind ≡ 0) × (address + n ≤ 8192) → fresh ≡ false → refused 11 at ≡ verdict text
-  said-twice stored (z, k, d, h) e = met-twice z k d h stored e
+    pub said-past : (sum ≡ 0) × (kind ≡ 1 → ⊥) × (kind ≡ 0) × (8192 < address + n) → refused 10 at ≡ verdict text
+    said-past (z, k, d, h) = met-past z k d (omega (arith, reads))
 
-  pub said-passed : {after : List ℕ} {fresh : Bool} → Stored bytes n address scratch after fresh
-      → (sum ≡ 0) × (kind ≡ 1 → ⊥) × (kind ≡ 0) × (address + n ≤ 8192) → fresh ≡ true → Passed text next (count + n) after
-  said-passed stored (z, k, d, h) e = met-passed z k d h stored e
+    module _ {after : List ℕ} {fresh : Bool} (stored : Stored bytes n address scratch after fresh)
+        (tested : (sum ≡ 0) × (kind ≡ 1 → ⊥) × (kind ≡ 0) × (address + n ≤ 8192)) where
+      fits : 256 * getD bytes 1 0 + getD bytes 2 0 + getD bytes 0 0 ≤ 8192
+      fits = omega (arith, reads, tested)
+
+      pub said-twice : fresh ≡ false → refused 11 at ≡ verdict text
+      said-twice e = met-twice (tested .0) (tested .1) (tested .2) fits (rw reads at stored) e
+
+      pub said-passed : fresh ≡ true → Passed text next (count + n) after
+      said-passed e = met-passed (tested .0) (tested .1) (tested .2) fits (rw reads at stored) e

@@ -26,7 +26,8 @@ use Rattle.laws.proofs.Sums.{sum-tabulate}
 use Rattle.hex.specs.Digits.{digit, byteAt, bytesFrom}
 use Rattle.hex.specs.Lines.{atEnd}
 use Rattle.hex.specs.Records.{allDigits}
-use Rattle.hex.specs.Steps.{Decoded, Stored, digitTable, spelledAt, sumFrom, pastEnd, endLength, storedAt, isFresh}
+use Rattle.hex.specs.Steps.{Decoded, Stored, digitTable, spelledAt, sumFrom, endedBy, pastEnd, endLength, storedAt, isFresh}
+use Rattle.hex.specs.declared.Outcome.the-variants.{Done, BadType, BadEnd}
 use Rattle.hex.proofs.Shape.{digits-at, digits-all}
 
 -- what the table tells of the bytes of a text
@@ -86,6 +87,26 @@ module _ (text : List ℕ) (place : ℕ) where
       go : (b : Bool) → (pick b (place + endLength (drop place text)) 0 ≡ 0 → ⊥) → b ≡ true
       go true h = refl
       go false h = absurd (h refl)
+
+-- what is said at a record of the end record's type
+module _ (n address place : ℕ) (more : Bool) (after count : ℕ) where
+  pub ended-long : (n ≡ 0 → ⊥) → endedBy n address place more after count ≡ BadType place
+  unfolding endedBy
+  ended-long h = simp (ne-eqb n 0 h)
+
+  module _ (empty : n ≡ 0) where
+    pub ended-far : (address ≡ 0 → ⊥) → endedBy n address place more after count ≡ BadType place
+    unfolding endedBy
+    ended-far h = simp (eq-eqb n 0 empty, ne-eqb address 0 h)
+
+    module _ (start : address ≡ 0) where
+      pub ended-more : more ≡ true → endedBy n address place more after count ≡ BadEnd after
+      unfolding endedBy
+      ended-more h = simp (eq-eqb n 0 empty, eq-eqb address 0 start, h)
+
+      pub ended-done : more ≡ false → endedBy n address place more after count ≡ Done count
+      unfolding endedBy
+      ended-done h = simp (eq-eqb n 0 empty, eq-eqb address 0 start, h)
 
 -- one turn of the running checksum
 pub sum-more : (i : ℕ) (f : ℕ → ℕ) (sum byte r : ℕ) → sum ≡ sumAll (tabulate i f) % 256 → byte ≡ f i → r ≡ (sum + byte) % 256

@@ -19,6 +19,7 @@ use Rattle.hex.specs.Reading.{mostText, said, verdict}
 use Rattle.hex.specs.declared.Line.{Line}
 use Rattle.hex.specs.declared.Line.the-variants.{Shaped, Unshaped}
 use Rattle.hex.specs.declared.Outcome.{Outcome}
+use Rattle.hex.specs.declared.Outcome.the-variants.{Done, BadType, BadEnd}
 
 -- the bytes of the longest record
 abbrev pub recordMost : ℕ
@@ -55,6 +56,10 @@ nextAt text place = place + length (getD (lines (drop place text)) 0 [])
 
 unfoldable pub lineAt : List ℕ → ℕ → Line
 lineAt text place = pick (isShaped (bodyOf (drop place text))) (Shaped (sumOf (recordAt text place)) (nextAt text place)) Unshaped
+
+-- what is said at a record of the end record's type, at a place, where more text may follow after it and so many bytes are given
+unfoldable pub endedBy : ℕ → ℕ → ℕ → Bool → ℕ → ℕ → Outcome
+endedBy n address place more after count = pick (both (eqb n 0) (eqb address 0)) (pick more (BadEnd after) (Done count)) (BadType place)
 
 -- what stands in the scratch for a byte that no record gave: no byte
 abbrev pub notGiven : ℕ

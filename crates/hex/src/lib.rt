@@ -5,8 +5,9 @@ ghost use mathlib.Core.List.{_++_};
 ghost use lib.ListN.{length, getD, drop};
 ghost use Rattle.laws.specs.Lists.{tabulate};
 ghost use Rattle.image.specs.Image.{imageBytes};
+ghost use Rattle.hex.specs.Records.{addressOf};
 ghost use Rattle.hex.specs.Reading.{mostText, answerOf, leftOf, said};
-ghost use Rattle.hex.specs.Steps.{ToCollect, Collected, ToParse, Parsed, ToDecode, Decoded, ToSpell, spelledAt, ToStore, Stored, pastEnd, byteOf};
+ghost use Rattle.hex.specs.Steps.{ToCollect, Collected, ToParse, Parsed, ToDecode, Decoded, ToSpell, spelledAt, endedBy, ToStore, Stored, pastEnd, byteOf};
 
 mod digits;
 
@@ -93,19 +94,11 @@ fn collect(digits: &[u8], text: &[u8], bytes: &mut [u8], scratch: &mut [u16]) ->
             return Outcome::BadSum(place);
         }
         let n = bytes[0] as usize;
-        let address = 256 * (bytes[1] as usize) + bytes[2] as usize;
+        let address = address_of(bytes);
         let kind = bytes[3];
         if kind == END {
-            if n != 0 {
-                return Outcome::BadType(place);
-            }
-            if address != 0 {
-                return Outcome::BadType(place);
-            }
-            if next < text.len() {
-                return Outcome::BadEnd(after);
-            }
-            return Outcome::Done(count);
+            let more = next < text.len();
+            return ended(n, address, place, more, after, count);
         }
         if kind != DATA {
             return Outcome::BadType(place);
@@ -122,6 +115,30 @@ fn collect(digits: &[u8], text: &[u8], bytes: &mut [u8], scratch: &mut [u16]) ->
     }
     let end = at as u32;
     Outcome::BadEnd(end)
+}
+
+// The address that a record's bytes give, the high byte first.
+fn address_of(bytes: &[u8]) -> usize
+    requires { ⌜ 3 ≤ length (now bytes) ⌝ }
+    ensures { λ r. ⌜ r ≡ addressOf (now (bytes .entry)) ⌝ }
+{
+    256 * (bytes[1] as usize) + bytes[2] as usize
+}
+
+// The answer at a record of the end record's type: its line is at a place, and whether more follows, after it, is known.
+fn ended(n: usize, address: usize, place: u32, more: bool, after: u32, count: u32) -> Outcome
+    ensures { λ r. ⌜ r ≡ endedBy n address place more after count ⌝ }
+{
+    if n != 0 {
+        return Outcome::BadType(place);
+    }
+    if address != 0 {
+        return Outcome::BadType(place);
+    }
+    if more {
+        return Outcome::BadEnd(after);
+    }
+    Outcome::Done(count)
 }
 
 // One line: not of the record's shape, or its eight-bit sum and where the next line starts.

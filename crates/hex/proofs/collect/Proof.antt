@@ -1,7 +1,7 @@
 -- `hex::collect` meets its contract: how far the reading has come (`Passed`) is the invariant, and each answer is the verdict at the line met; the measure is what is left of the text.
 -- Assumes nothing.
 use Rattle.hex.proofs.Passed.{passed-none, unfilled-length}
-use Rattle.hex.proofs.Answers.{Turn, bytes-fit, refused-by, over, meets, meets-none, met-next, met-sum, said-long-end, said-far-end, said-more, said-done, said-type, said-past, said-twice, said-passed}
+use Rattle.hex.proofs.Answers.{Turn, bytes-fit, refused-by, over, meets, meets-none, met-next, met-sum, said-ended, said-type, said-past, said-twice, said-passed}
 use borrow.Author.Needs.{needs}
 use native.Mathlib.Omega.{arith}
 use lib.ListN.{length}
@@ -81,38 +81,14 @@ cast-n c =
     let small = bytes-fit parsed (search) in
     omega (arith, small 0)
 
-slice-read-address : tie.Need-slice-read-address Inv-loop μ-loop
-slice-read-address c = omega arith
-
-cast-address : tie.Need-cast-address Inv-loop μ-loop
-cast-address c =
-    let parsed = (let p : tie.After-parse Inv-loop μ-loop = search in p .parse .ensures) in
-    let small = bytes-fit parsed (search) in
-    omega (arith, small 1)
-
-mul-address : tie.Need-mul-address Inv-loop μ-loop
-mul-address c =
-    let parsed = (let p : tie.After-parse Inv-loop μ-loop = search in p .parse .ensures) in
-    let small = bytes-fit parsed (search) in
-    omega (arith, small 1)
-
-slice-read-address-2 : tie.Need-slice-read-address-2 Inv-loop μ-loop
-slice-read-address-2 c = omega arith
-
-cast-address-2 : tie.Need-cast-address-2 Inv-loop μ-loop
-cast-address-2 c =
-    let parsed = (let p : tie.After-parse Inv-loop μ-loop = search in p .parse .ensures) in
-    let small = bytes-fit parsed (search) in
-    omega (arith, small 2)
-
-add-address : tie.Need-add-address Inv-loop μ-loop
-add-address c =
-    let parsed = (let p : tie.After-parse Inv-loop μ-loop = search in p .parse .ensures) in
-    let small = bytes-fit parsed (search) in
-    omega (arith, small 1, small 2)
+address-of-requires : tie.Need-address-of-requires Inv-loop μ-loop
+address-of-requires c κs = omega arith
 
 slice-read-kind : tie.Need-slice-read-kind Inv-loop μ-loop
 slice-read-kind c = omega arith
+
+ended-requires : tie.Need-ended-requires Inv-loop μ-loop
+ended-requires c κs = search needs
 
 same-length-5 : tie.Need-same-length-5 Inv-loop μ-loop
 same-length-5 c = omega arith
@@ -127,7 +103,9 @@ returns-3 c =
     let p : tie.After-parse Inv-loop μ-loop = search in
     let i : tie.In-loop Inv-loop μ-loop = search in
     meets (i .before .loop .inv .passed) (i .loop-test .taken) (p .parse .ensures) (l .sum .given .1)) in
-    refused-by (said-long-end met (omega arith)) (omega arith)
+    let reads = (let e : tie.After-address-of Inv-loop μ-loop = search in e .address-of .ensures) in
+    let answer = (let e : tie.After-ended Inv-loop μ-loop = search in e .ended .ensures) in
+    said-ended met reads _ _ _ _ (omega arith) (search) answer
 
 same-length-7 : tie.Need-same-length-7 Inv-loop μ-loop
 same-length-7 c = omega arith
@@ -142,7 +120,13 @@ returns-4 c =
     let p : tie.After-parse Inv-loop μ-loop = search in
     let i : tie.In-loop Inv-loop μ-loop = search in
     meets (i .before .loop .inv .passed) (i .loop-test .taken) (p .parse .ensures) (l .sum .given .1)) in
-    refused-by (said-far-end met (omega arith)) (omega arith)
+    refused-by (said-type met (omega arith)) (omega arith)
+
+add-if4 : tie.Need-add-if4 Inv-loop μ-loop
+add-if4 c =
+    let parsed = (let p : tie.After-parse Inv-loop μ-loop = search in p .parse .ensures) in
+    let small = bytes-fit parsed (search) in
+    omega (arith, small 0, small 1, small 2)
 
 same-length-9 : tie.Need-same-length-9 Inv-loop μ-loop
 same-length-9 c = omega arith
@@ -157,58 +141,8 @@ returns-5 c =
     let p : tie.After-parse Inv-loop μ-loop = search in
     let i : tie.In-loop Inv-loop μ-loop = search in
     meets (i .before .loop .inv .passed) (i .loop-test .taken) (p .parse .ensures) (l .sum .given .1)) in
-    refused-by (said-more met (omega arith)) (omega arith)
-
-same-length-11 : tie.Need-same-length-11 Inv-loop μ-loop
-same-length-11 c = omega arith
-
-same-length-12 : tie.Need-same-length-12 Inv-loop μ-loop
-same-length-12 c = omega arith
-
-returns-6 : tie.Need-returns-6 Inv-loop μ-loop
-returns-6 c =
-    let met =
-    (let l : tie.After-sum Inv-loop μ-loop = search in
-    let p : tie.After-parse Inv-loop μ-loop = search in
-    let i : tie.In-loop Inv-loop μ-loop = search in
-    meets (i .before .loop .inv .passed) (i .loop-test .taken) (p .parse .ensures) (l .sum .given .1)) in
-    said-done met (omega arith) (omega arith)
-
-same-length-13 : tie.Need-same-length-13 Inv-loop μ-loop
-same-length-13 c = omega arith
-
-same-length-14 : tie.Need-same-length-14 Inv-loop μ-loop
-same-length-14 c = omega arith
-
-returns-7 : tie.Need-returns-7 Inv-loop μ-loop
-returns-7 c =
-    let met =
-    (let l : tie.After-sum Inv-loop μ-loop = search in
-    let p : tie.After-parse Inv-loop μ-loop = search in
-    let i : tie.In-loop Inv-loop μ-loop = search in
-    meets (i .before .loop .inv .passed) (i .loop-test .taken) (p .parse .ensures) (l .sum .given .1)) in
-    refused-by (said-type met (omega arith)) (omega arith)
-
-add-if7 : tie.Need-add-if7 Inv-loop μ-loop
-add-if7 c =
-    let parsed = (let p : tie.After-parse Inv-loop μ-loop = search in p .parse .ensures) in
-    let small = bytes-fit parsed (search) in
-    omega (arith, small 0, small 1, small 2)
-
-same-length-15 : tie.Need-same-length-15 Inv-loop μ-loop
-same-length-15 c = omega arith
-
-same-length-16 : tie.Need-same-length-16 Inv-loop μ-loop
-same-length-16 c = omega arith
-
-returns-8 : tie.Need-returns-8 Inv-loop μ-loop
-returns-8 c =
-    let met =
-    (let l : tie.After-sum Inv-loop μ-loop = search in
-    let p : tie.After-parse Inv-loop μ-loop = search in
-    let i : tie.In-loop Inv-loop μ-loop = search in
-    meets (i .before .loop .inv .passed) (i .loop-test .taken) (p .parse .ensures) (l .sum .given .1)) in
-    refused-by (said-past met (omega arith)) (omega arith)
+    let reads = (let e : tie.After-address-of Inv-loop μ-loop = search in e .address-of .ensures) in
+    refused-by (said-past met reads (omega arith)) (omega arith)
 
 store-requires : tie.Need-store-requires Inv-loop μ-loop
 store-requires c κs =
@@ -239,36 +173,38 @@ loop-again c =
     let p : tie.After-parse Inv-loop μ-loop = search in
     let i : tie.In-loop Inv-loop μ-loop = search in
     meets (i .before .loop .inv .passed) (i .loop-test .taken) (p .parse .ensures) (l .sum .given .1)) in
+    let reads = (let e : tie.After-address-of Inv-loop μ-loop = search in e .address-of .ensures) in
     let stored = (let k : tie.After-store Inv-loop μ-loop = search in k .store .ensures) in
-    record { passed = said-passed met stored (omega arith) (search); room = omega arith; whole = omega arith }
+    record { passed = said-passed met reads stored (omega arith) (search); room = omega arith; whole = omega arith }
 
-same-length-17 : tie.Need-same-length-17 Inv-loop μ-loop
-same-length-17 c = omega arith
+same-length-11 : tie.Need-same-length-11 Inv-loop μ-loop
+same-length-11 c = omega arith
 
-same-length-18 : tie.Need-same-length-18 Inv-loop μ-loop
-same-length-18 c = omega arith
+same-length-12 : tie.Need-same-length-12 Inv-loop μ-loop
+same-length-12 c = omega arith
 
-returns-9 : tie.Need-returns-9 Inv-loop μ-loop
-returns-9 c =
+returns-6 : tie.Need-returns-6 Inv-loop μ-loop
+returns-6 c =
     let met =
     (let l : tie.After-sum Inv-loop μ-loop = search in
     let p : tie.After-parse Inv-loop μ-loop = search in
     let i : tie.In-loop Inv-loop μ-loop = search in
     meets (i .before .loop .inv .passed) (i .loop-test .taken) (p .parse .ensures) (l .sum .given .1)) in
+    let reads = (let e : tie.After-address-of Inv-loop μ-loop = search in e .address-of .ensures) in
     let stored = (let k : tie.After-store Inv-loop μ-loop = search in k .store .ensures) in
-    refused-by (said-twice met stored (omega arith) (search)) (omega arith)
+    refused-by (said-twice met reads stored (omega arith) (search)) (omega arith)
 
 cast-end : tie.Need-cast-end Inv-loop μ-loop
 cast-end c = omega arith
 
-same-length-19 : tie.Need-same-length-19 Inv-loop μ-loop
-same-length-19 c = omega arith
+same-length-13 : tie.Need-same-length-13 Inv-loop μ-loop
+same-length-13 c = omega arith
 
-same-length-20 : tie.Need-same-length-20 Inv-loop μ-loop
-same-length-20 c = omega arith
+same-length-14 : tie.Need-same-length-14 Inv-loop μ-loop
+same-length-14 c = omega arith
 
-returns-10 : tie.Need-returns-10 Inv-loop μ-loop
-returns-10 c =
+returns-7 : tie.Need-returns-7 Inv-loop μ-loop
+returns-7 c =
     let turn = (let h : tie.At-loop Inv-loop μ-loop = search in h .loop) in
     refused-by (over (turn .inv .passed) (omega arith)) (omega arith)
 
@@ -292,41 +228,28 @@ collect-spec =
     returns-2
     slice-read-n
     cast-n
-    slice-read-address
-    cast-address
-    mul-address
-    slice-read-address-2
-    cast-address-2
-    add-address
+    address-of-requires
     slice-read-kind
+    ended-requires
     same-length-5
     same-length-6
     returns-3
     same-length-7
     same-length-8
     returns-4
+    add-if4
     same-length-9
     same-length-10
     returns-5
-    same-length-11
-    same-length-12
-    returns-6
-    same-length-13
-    same-length-14
-    returns-7
-    add-if7
-    same-length-15
-    same-length-16
-    returns-8
     store-requires
     cast-count
     add-count
     loop-less
     loop-again
-    same-length-17
-    same-length-18
-    returns-9
+    same-length-11
+    same-length-12
+    returns-6
     cast-end
-    same-length-19
-    same-length-20
-    returns-10)
+    same-length-13
+    same-length-14
+    returns-7)
