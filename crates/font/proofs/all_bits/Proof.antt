@@ -1,4 +1,4 @@
--- `font::all_bits`. Where the bits so far are within a bound, so are the numbers passed: of each quarter, and then from the front on.
+-- `font::all_bits`. Where the bits so far are within a bound, so are the numbers passed: of each of the four parts, and then from the front on.
 -- Assumes nothing.
 use Prim.Native.Nat.{ℕ, _+_, _-_, _*_, _/_, _<_, _≤_}
 use native.Mathlib.Omega.{arith}
@@ -21,6 +21,9 @@ Inv-loop2 numbers part all₀ i₀ all i = (i ≤ length numbers) × ((most : �
 
 abbrev μ-loop2 : tie.MeasureT-loop2
 μ-loop2 numbers part all₀ i₀ all i = length numbers - i
+
+mul-part : tie.Need-mul-part Inv-loop μ-loop Inv-loop2 μ-loop2
+mul-part c = omega arith
 
 loop-holds : tie.Need-loop-holds Inv-loop μ-loop Inv-loop2 μ-loop2
 loop-holds c = (omega arith, λ most le. quarters-none most _ _)
@@ -74,7 +77,7 @@ loop-again : tie.Need-loop-again Inv-loop μ-loop Inv-loop2 μ-loop2
 loop-again c =
     let s = (let p : tie.Start Inv-loop μ-loop Inv-loop2 μ-loop2 = search in p .args .numbers .now) in
     let l = (let p : tie.At-loop Inv-loop μ-loop Inv-loop2 μ-loop2 = search in p .loop) in
-    let part : ℕ = length s / 4 in
+    let part : ℕ = 16 * (length s / 64) in
     let a : ℕ = getD s (l .i) 0 in
     let b : ℕ = getD s (part + l .i) 0 in
     let d : ℕ = getD s (2 * part + l .i) 0 in
@@ -97,7 +100,7 @@ loop2-holds : tie.Need-loop2-holds Inv-loop μ-loop Inv-loop2 μ-loop2
 loop2-holds c =
     let s = (let p : tie.Start Inv-loop μ-loop Inv-loop2 μ-loop2 = search in p .args .numbers .now) in
     let l = (let p : tie.At-loop Inv-loop μ-loop Inv-loop2 μ-loop2 = search in p .loop) in
-    (omega arith, λ most le k h. quarters-all most s (length s / 4) (l .i) (omega arith) (l .inv .1 most le) k (omega arith))
+    (omega arith, λ most le k h. quarters-all most s (16 * (length s / 64)) (l .i) (omega arith) (l .inv .1 most le) k (omega arith))
 
 mul-all : tie.Need-mul-all Inv-loop μ-loop Inv-loop2 μ-loop2
 mul-all c = omega arith
@@ -137,6 +140,7 @@ all-bits-spec =
     μ-loop
     Inv-loop2
     μ-loop2
+    mul-part
     loop-holds
     mul-front
     shared-slice-read-front
