@@ -15,6 +15,7 @@ use Rattle.laws.proofs.Lists.{tabulate-same, getD-tabulate, tabulate-cut}
 use Rattle.laws.proofs.Holders.{first-of-none}
 use Rattle.laws.proofs.Placing.{cell-has, cell-below, cell-beside, share-below}
 use Rattle.font.specs.Font.{rowOf}
+use Rattle.modes.specs.Modes.{outsideByte}
 use Rattle.units.specs.declared.Dots.{Dots}
 use Rattle.units.specs.declared.Lines.{Lines}
 use Rattle.display.specs.declared.View.{View}
@@ -24,7 +25,7 @@ use Rattle.display.specs.declared.Kind.{Kind}
 use Rattle.display.specs.declared.Kind.the-variants.{Character, Space, Return, End}
 use Rattle.display.specs.Words.{kindOf}
 use Rattle.display.specs.Cells.{Shown, character, space, Cell, kindCell, rightOf, belowRow, rowPen, afterWord, goesOn, cellsFrom}
-use Rattle.display.specs.Picture.{outsideByte, has, shownDot, cellDot, dotAt}
+use Rattle.display.specs.Picture.{has, shownDot, cellDot, dotAt}
 use Rattle.display.specs.Painting.{screenOf, viewOf, dotOf, lineOf}
 
 -- the words that are read: up to the first end, with it

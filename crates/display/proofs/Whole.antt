@@ -3,7 +3,8 @@
 use mathlib.Core.Path.{_≡_, sym, ap, _∙_}
 use mathlib.Core.Bool.{Bool, true, false}
 use mathlib.Core.List.{List, [], _∷_, _++_}
-use Prim.Native.Nat.{ℕ, _≤_}
+use Prim.Native.Nat.{ℕ, _%_, _≤_}
+use native.Mathlib.Omega.{arith}
 use types.Run.{OneOf}
 use denote.Enum.Declared.{tagOf}
 use borrow.Author.Tests.{eq-eqb, ne-eqb}
@@ -16,6 +17,7 @@ use Rattle.laws.proofs.Overlay.{overlay-filled}
 use Rattle.laws.proofs.Lists.{tabulate-same, tabulate-constant}
 use Rattle.units.specs.declared.Dots.{Dots}
 use Rattle.units.specs.declared.Lines.{Lines}
+use Rattle.modes.specs.Modes.{video, outsideByte, litIn}
 use Rattle.judging.specs.declared.Settings.{Settings}
 use Rattle.judging.specs.declared.Painted.{Painted}
 use Rattle.judging.specs.declared.Painted.the-variants.{Done}
@@ -24,24 +26,27 @@ use Rattle.judging.proofs.Accepted.{accepted-done, done-is, not-done}
 use Rattle.judging.proofs.Painted.{the-type}
 use Rattle.display.specs.declared.View.{View}
 use Rattle.display.specs.Cells.{rowPen}
-use Rattle.display.specs.Picture.{video, outsideByte, litIn, dotAt}
+use Rattle.display.specs.Picture.{dotAt}
 use Rattle.display.specs.Painting.{firstDot, firstLine, screenOf, viewOf, dotOf, lineOf, leftBy}
 use Rattle.display.specs.Steps.{painted, Usable}
 use Rattle.display.proofs.Join.{joined}
 
--- a line of outside bytes, painted over by the cells in turn
-pub on-line : (words font : List ℕ) (s : Settings) (frame : ℕ) (line : Lines) (lit : Bool) (n other : ℕ) (mid last : List ℕ) → lit ≡ litIn (s .ratio) (s .frequency) frame
-    → other ≡ outsideByte (s .mode) (s .colour) → mid ≡ replicate n other
+-- a line of outside bytes, painted over by the cells in turn; of settings that are usable every bit counts
+pub on-line : (words font : List ℕ) (s : Settings) (frame : ℕ) (line : Lines) (lit : Bool) (n other : ℕ) (mid last : List ℕ) → Usable words font s → lit ≡ litIn (s .ratio % 4) (s .frequency % 4) frame
+    → other ≡ outsideByte (s .mode) (s .colour % 8) → mid ≡ replicate n other
     → last ≡ overlay (painted font (record { left = firstDot s; line = line; mode = s .mode; lit = lit }) (screenOf words s)) mid
     → last ≡ tabulate n (dotAt font (viewOf s frame line) (s .colour) (screenOf words s))
 unfolding dotAt
-on-line words font s frame line lit n other mid last blink shade filled walked =
+on-line words font s frame line lit n other mid last usable blink shade filled walked =
+    let colour : s .colour % 8 ≡ s .colour = omega (arith, usable .colour) in
+    let ratio : s .ratio % 4 ≡ s .ratio = omega (arith, usable .ratio) in
+    let frequency : s .frequency % 4 ≡ s .frequency = omega (arith, usable .frequency) in
     let view : Bool → View = λ b. record { left = firstDot s; line = line; mode = s .mode; lit = b } in
     walked
-    ∙ ap (λ (t : List ℕ). overlay (painted font (view lit) (screenOf words s)) t) (filled ∙ ap (λ (b : ℕ). replicate n b) shade)
+    ∙ ap (λ (t : List ℕ). overlay (painted font (view lit) (screenOf words s)) t) (filled ∙ ap (λ (b : ℕ). replicate n b) (shade ∙ ap (outsideByte (s .mode)) colour))
     ∙ overlay-filled (painted font (view lit) (screenOf words s)) (outsideByte (s .mode) (s .colour)) n
     ∙ tabulate-same n _ _ (λ k lt. joined (view lit) (firstDot s) k font words (rowPen (firstDot s) (firstLine s) 1 (s .colour)) (outsideByte (s .mode) (s .colour)))
-    ∙ ap (λ (b : Bool). tabulate n (dotAt font (view b) (s .colour) (screenOf words s))) blink
+    ∙ ap (λ (b : Bool). tabulate n (dotAt font (view b) (s .colour) (screenOf words s))) (blink ∙ ap (λ (q : ℕ). litIn q (s .frequency % 4) frame) ratio ∙ ap (λ (q : ℕ). litIn (s .ratio) q frame) frequency)
 
 -- the first n bytes
 pub part-there : (n : ℕ) (out : List ℕ) → n ≤ length out → n ≡ length (take n out)

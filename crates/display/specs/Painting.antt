@@ -9,10 +9,11 @@ use Rattle.laws.specs.Lists.{tabulate}
 use Rattle.units.specs.declared.Dots.{Dots}
 use Rattle.units.specs.declared.Lines.{Lines}
 use Rattle.display.specs.declared.View.{View}
+use Rattle.modes.specs.Modes.{video, litIn}
 use Rattle.judging.specs.declared.Settings.{Settings}
 use Rattle.judging.specs.Judging.{answerOf}
 use Rattle.display.specs.Cells.{Cell, cells}
-use Rattle.display.specs.Picture.{video, litIn, dotAt}
+use Rattle.display.specs.Picture.{dotAt}
 
 -- rows start at dot 4h
 abbrev pub firstDot : Settings → Dots

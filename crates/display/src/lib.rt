@@ -7,7 +7,7 @@ ghost use Rattle.laws.specs.Lists.{tabulate};
 ghost use Rattle.judging.specs.Judging.{answerOf, said, mostColour};
 ghost use Rattle.display.specs.Words.{kindOf};
 ghost use Rattle.display.specs.Cells.{placedWord, cellOf, rightOf, belowRow, rowPen, cellsFrom};
-ghost use Rattle.display.specs.Picture.{unlitByte, outsideByte, divisorOf, litIn, dotAt};
+ghost use Rattle.display.specs.Picture.{dotAt};
 ghost use Rattle.display.specs.Painting.{viewOf, screenOf, leftBy};
 ghost use Rattle.display.specs.Steps.{painted, shownBits, rowEnd, mostSize, mostSpacing, far, Sound, EndSound, Usable, RowAsks, CellAsks, DrawAsks, BitsAsks};
 use judging::Painted;
@@ -109,7 +109,7 @@ fn paint_line(
     requires { ⌜ Usable (now words) (now font) settings ⌝ }
     ensures { λ _. ⌜ now (out .exit) ≡ tabulate (length (now (out .entry))) (dotAt (now (font .entry)) (viewOf settings frame line) (settings .colour) (screenOf (now (words .entry)) settings)) ⌝ }
 {
-    let lit = blink_lit(settings.ratio, settings.frequency, frame);
+    let lit = modes::lit(settings.ratio, settings.frequency, frame);
     let x = 4 * settings.h as usize;
     let y = 4 * settings.v as usize;
     let view = View {
@@ -119,7 +119,7 @@ fn paint_line(
         lit: lit,
     };
     let start = settings.colour as u8;
-    fill::fill(out, outside(settings.mode, start));
+    fill::fill(out, modes::outside(settings.mode, start));
     row_step(words, font, view, Lines(y), 1, start, out);
 }
 
@@ -312,11 +312,11 @@ fn draw(cell: Placed, background: u8, font: &[u16], view: View, out: &mut [u8])
             blink,
         } => {
             let bits = shown_bits(font, view, y, size, code, blink);
-            let off = unlit(view.mode, background);
+            let off = modes::unlit(view.mode, background);
             stretch::stretch(out, x, size as u8, bits, 8 + colour, off);
         }
         Kind::Space { background: own } => {
-            let off = unlit(view.mode, own);
+            let off = modes::unlit(view.mode, own);
             stretch::stretch(out, x, size as u8, 0, off, off);
         }
         Kind::Return { .. } => {}
@@ -336,43 +336,5 @@ fn shown_bits(font: &[u16], view: View, y: Lines, size: usize, code: usize, blin
         if view.lit { bits } else { 0 }
     } else {
         bits
-    }
-}
-
-// An unlit dot of a cell, and each dot of a space.
-fn unlit(mode: u32, background: u8) -> u8
-    requires { ⌜ background ≤ mostColour ⌝ }
-    ensures { λ r. ⌜ r ≡ unlitByte mode background ⌝ }
-{
-    if mode <= 1 { 0 } else { 8 + background }
-}
-
-// A dot outside every cell.
-fn outside(mode: u32, start: u8) -> u8
-    requires { ⌜ start ≤ mostColour ⌝ }
-    ensures { λ r. ⌜ r ≡ outsideByte mode start ⌝ }
-{
-    if mode <= 2 { 0 } else { 8 + start }
-}
-
-// Whether this frame is in the lit part of a blinking character.
-fn blink_lit(ratio: u32, frequency: u32, frame: u32) -> bool
-    requires { ⌜ (ratio ≤ 2) × (frequency ≤ 3) ⌝ }
-    ensures { λ r. ⌜ r ≡ litIn ratio frequency frame ⌝ }
-{
-    let d = divisor(frequency);
-    let part = 3 - ratio;
-    frame % d < part * d / 4
-}
-
-fn divisor(frequency: u32) -> u32
-    requires { ⌜ frequency ≤ 3 ⌝ }
-    ensures { λ r. ⌜ (r ≡ divisorOf frequency) × ((16 ≤ r) × (r ≤ 128)) ⌝ }
-{
-    match frequency {
-        0 => 16,
-        1 => 32,
-        2 => 64,
-        _ => 128,
     }
 }

@@ -1,11 +1,13 @@
--- Tests that antt computes, and the laws that turn one into its rule: a test passed at every number below n holds at each of them.
+-- Tests that antt computes, and the laws that turn one into its rule: a test passed at every number below n holds at each of them. And what a test
+-- in the code, turned about, tells of the account's.
 -- Assumes nothing.
 use Prim.Native.Nat.{ℕ, zero, suc, _<_}
-use mathlib.Core.Path.{_≡_, ap, _∙_}
-use mathlib.Core.Bool.{Bool, true}
+use mathlib.Core.Path.{_≡_, sym, ap, _∙_}
+use mathlib.Core.Bool.{Bool, true, false, not}
 use native.Mathlib.Nat.{not-suc-le-zero}
 use native.Mathlib.Omega.{arith}
 use native.Mathlib.Decide.{ℕ-discrete}
+use borrow.Author.Tests.{not-true, not-false}
 use Rattle.laws.specs.Pick.{both}
 use Rattle.laws.proofs.Both.{both-parts}
 
@@ -21,3 +23,10 @@ upto-at (suc n) f e k h = let parts = both-parts (f n) (upto n f) e in go (λ l.
     go : (k < n → f k ≡ true) → f n ≡ true → Dec (k ≡ n) → f k ≡ true
     go rest last (yes d) = ap f d ∙ last
     go rest last (no d) = rest (omega arith)
+
+-- what `!f(..)` tells of the test that f answers by
+pub holds : (r t : Bool) → r ≡ t → not r ≡ false → t ≡ true
+holds r t answers left = sym answers ∙ not-false _ left
+
+pub fails : (r t : Bool) → r ≡ t → not r ≡ true → t ≡ false
+fails r t answers taken = sym answers ∙ not-true _ taken

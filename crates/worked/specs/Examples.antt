@@ -13,7 +13,7 @@ use Rattle.periods.specs.Demand.{highs, highClocks}
 use Rattle.display.specs.declared.Kind.{Kind}
 use Rattle.display.specs.declared.Kind.the-variants.{Character, Space, Return, End}
 use Rattle.display.specs.Words.{kindOf}
-use Rattle.display.specs.Picture.{litIn}
+use Rattle.modes.specs.Modes.{litIn}
 
 pub data Question : Type 0 where
   -- what a word is

@@ -35,7 +35,7 @@ enum-known-kind-2 : tie.Need-enum-known-kind-2
 enum-known-kind-2 c = search needs
 
 unlit-requires-2 : tie.Need-unlit-requires-2
-unlit-requires-2 c κs = search own-sound
+unlit-requires-2 c κs = search needs
 
 stretch-requires-2 : tie.Need-stretch-requires-2
 stretch-requires-2 c κs = search needs
@@ -58,9 +58,9 @@ returns c =
     let shade = (let p : tie.After-unlit = search in p .unlit .ensures) in
     let bits = (let p : tie.After-shown-bits = search in p .shown-bits .ensures) in
     let told = (let k : tie.After-kind = search in k .kind .given .1) in
-    let cut = (let s : tie.Start = search in s .pre .cut) in
+    let pre = (let s : tie.Start = search in s .pre) in
     let a = (let s : tie.Start = search in s .args) in
-    drawn-character (a .font .now) (a .view) (a .cell) (a .background) (a .out .now) _ _ _ _ _ _ cut told bits shade drawn
+    drawn-character (a .font .now) (a .view) (a .cell) (a .background) (a .out .now) _ _ _ _ _ _ (pre .cut) told bits (pre .colour) shade drawn
 
 same-length-2 : tie.Need-same-length-2
 same-length-2 c = search needs
@@ -70,9 +70,9 @@ returns-2 c =
     let drawn = (let p : tie.After-stretch2 = search in p .stretch2 .ensures) in
     let shade = (let p : tie.After-unlit2 = search in p .unlit2 .ensures) in
     let told = (let k : tie.After-kind2 = search in k .kind2 .given .1) in
-    let cut = (let s : tie.Start = search in s .pre .cut) in
+    let pre = (let s : tie.Start = search in s .pre) in
     let a = (let s : tie.Start = search in s .args) in
-    drawn-space (a .font .now) (a .view) (a .cell) (a .background) (a .out .now) _ _ _ cut told shade drawn
+    drawn-space (a .font .now) (a .view) (a .cell) (a .background) (a .out .now) _ _ _ (pre .cut) told (own-sound _ _ told (pre .sound)) shade drawn
 
 returns-3 : tie.Need-returns-3
 returns-3 c = search drawn-return

@@ -7,8 +7,8 @@ use borrow.Author.Needs.{needs}
 use Rattle.display.proofs.paint_line.Statement.{statement}
 use Rattle.display.proofs.paint_line.Tie as tie
 
-blink-lit-requires : tie.Need-blink-lit-requires
-blink-lit-requires c κs = search needs
+lit-requires : tie.Need-lit-requires
+lit-requires c κs = search needs
 
 cast-x : tie.Need-cast-x
 cast-x c = search needs
@@ -44,15 +44,16 @@ returns c =
     let walked = (let r : tie.After-row-step = search in r .row-step .ensures) in
     let filled = (let f : tie.After-fill = search in f .fill .ensures) in
     let other = (let o : tie.After-outside = search in o .outside .ensures) in
-    let blink = (let b : tie.After-blink-lit = search in b .blink-lit .ensures) in
+    let blink = (let b : tie.After-lit = search in b .lit .ensures) in
+    let usable = (let s : tie.Start = search in s .pre) in
     let a = (let s : tie.Start = search in s .args) in
-    on-line (a .words .now) (a .font .now) (a .settings) (a .frame) (a .line) _ (length (a .out .now)) _ _ _ blink other filled walked
+    on-line (a .words .now) (a .font .now) (a .settings) (a .frame) (a .line) _ (length (a .out .now)) _ _ _ usable blink other filled walked
 
 pub paint-line-spec : {M : Type 1} → statement M
 paint-line-spec =
     tie.close
     (tie.spec
-    blink-lit-requires
+    lit-requires
     cast-x
     mul-x
     cast-y

@@ -1,14 +1,15 @@
 -- `writer::write`: each return by the tests that led to it.
 -- Assumes nothing.
-use mathlib.Core.Path.{_≡_, sym, _∙_}
-use mathlib.Core.Bool.{Bool, true, false, not}
+use mathlib.Core.Path.{_≡_, _∙_}
+use mathlib.Core.Bool.{true, false}
 use native.Mathlib.Omega.{arith}
 use borrow.Author.Needs.{needs}
-use borrow.Author.Tests.{not-true, not-false, lt-ltb, le-ltb}
+use borrow.Author.Tests.{lt-ltb, le-ltb}
 use lib.Dec.{ltb}
 use lib.ListN.{length}
 use Rattle.laws.specs.Said.{refused}
 use Rattle.laws.proofs.Said.{said-by}
+use Rattle.laws.proofs.Tests.{holds, fails}
 use Rattle.font.specs.Font.{isFont}
 use Rattle.image.specs.Image.{imageOf}
 use Rattle.writer.specs.Text.{textBytes}
@@ -16,13 +17,6 @@ use Rattle.writer.specs.Writing.{answerOf, leftOf}
 use Rattle.writer.proofs.Spelling.{text-stored}
 use Rattle.writer.proofs.write.Statement.{statement}
 use Rattle.writer.proofs.write.Tie as tie
-
--- what `!f(..)` tells of the test that f answers by
-holds : (r t : Bool) → r ≡ t → not r ≡ false → t ≡ true
-holds r t answers left = sym answers ∙ not-false _ left
-
-fails : (r t : Bool) → r ≡ t → not r ≡ true → t ≡ false
-fails r t answers taken = sym answers ∙ not-true _ taken
 
 is-font-requires : tie.Need-is-font-requires
 is-font-requires c κs = search needs

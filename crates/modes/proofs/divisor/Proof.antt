@@ -1,10 +1,10 @@
--- `display::divisor`: a power of two for each frequency.
+-- `modes::divisor`: a power of two for each frequency.
 -- Assumes nothing.
 use native.Mathlib.Omega.{arith}
 use mathlib.Core.Path.{_≡_, ap, sym}
-use Rattle.display.specs.Picture.{divisorOf}
-use Rattle.display.proofs.divisor.Statement.{statement}
-use Rattle.display.proofs.divisor.Tie as tie
+use Rattle.modes.specs.Modes.{divisorOf}
+use Rattle.modes.proofs.divisor.Statement.{statement}
+use Rattle.modes.proofs.divisor.Tie as tie
 
 returns : tie.Need-returns
 returns c = (ap divisorOf (sym (c .match .keys1)), (omega arith, omega arith))

@@ -1,11 +1,15 @@
--- `display::unlit`: each return by the test of the mode.
+-- `modes::unlit`: each return by the test of the mode.
 -- Assumes nothing.
-use Prim.Native.Nat.{_≤_, _<_}
+use mathlib.Core.Path.{sym, ap}
+use mathlib.Core.Bool.{Bool}
+use Prim.Native.Nat.{_%_, _≤_, _<_}
 use native.Mathlib.Omega.{arith}
 use borrow.Author.Tests.{le-leb, lt-leb}
 use borrow.Author.Needs.{needs}
-use Rattle.display.proofs.unlit.Statement.{statement}
-use Rattle.display.proofs.unlit.Tie as tie
+use Rattle.laws.specs.Pick.{pick}
+use Rattle.modes.specs.Modes.{video, inColour}
+use Rattle.modes.proofs.unlit.Statement.{statement}
+use Rattle.modes.proofs.unlit.Tie as tie
 
 add-result : tie.Need-add-result
 add-result c = search needs
@@ -20,7 +24,7 @@ returns-2 : tie.Need-returns-2
 returns-2 c =
     let a = (let s : tie.Start = search in s .args) in
     let coloured : 1 < a .mode = omega arith in
-    simp (lt-leb _ _ coloured)
+    ap (λ (plain : Bool). pick plain video (inColour (a .background % 8))) (sym (lt-leb _ _ coloured))
 
 pub unlit-spec : {M : Type 1} → statement M
 unlit-spec = tie.close (tie.spec add-result returns returns-2)
