@@ -1,18 +1,22 @@
 /*
  * bench [--growth] [PART ..]: measures the library against the baselines of fast.c, and where a call lays bytes also
- * against a memset of as many.
+ * against a memset of as many. Compiled with SINCE it measures it against an earlier library instead, whose calls are
+ * linked under names with since_ before them.
  *
  * The sides run in turn in one process, so that whatever else the machine does falls on all alike, and are called
  * through pointers, so that none is inlined. The times are processor time, so that a machine that has other work as well
- * disturbs less. A row has the part, the shape, and the nanoseconds of library, baseline and memset (- where no bytes are
- * laid), each the median of the rounds, with tabs between. With --growth a row has what grows, its size, and the
- * library's nanoseconds for one call. `reference/measure` starts this several times.
+ * disturbs less. A row has the part, the shape, and the nanoseconds of library, baseline (or earlier library) and memset
+ * (- for a side that lacks a call of the shape), each the median of the rounds, with tabs between. With --growth a row has
+ * what grows, its size, and the library's nanoseconds for one call. `reference/measure` starts this several times.
  */
 #define _POSIX_C_SOURCE 199309L
 #include "dirgeflint.h"
+#ifndef SINCE
 #include "fast.c"
+#endif
 #include <stdio.h>
 #include <stdlib.h>
+#include <string.h>
 #include <time.h>
 
 enum { ROUNDS = 11, PERIOD = 16384, SIDE = 1024, TEXT = 22540 };
@@ -20,22 +24,32 @@ enum { ROUNDS = 11, PERIOD = 16384, SIDE = 1024, TEXT = 22540 };
 /* How long one side of one round should take at least, in nanoseconds. */
 static const double ROUND = 2e6;
 
+/* The calls that are measured, by their names without dirgeflint_. */
+#define CALLS(each) \
+    each(pulse_level) \
+    each(dac_reset) each(dac_write_low) each(dac_write_high) each(dac_play) \
+    each(port_reset) each(port_write_address) each(port_write_attribute) each(port_write_character) \
+    each(paint) \
+    each(hex_read) each(hex_write) each(image_to_font)
+
+#define MEMBER(name) __typeof__(dirgeflint_##name) *name;
 typedef struct face {
-    dirgeflint_answer (*pulse_level)(uint32_t, uint8_t, uint32_t);
-    void (*dac_reset)(dirgeflint_dac *);
-    void (*dac_write_low)(dirgeflint_dac *, uint8_t);
-    void (*dac_write_high)(dirgeflint_dac *, uint8_t);
-    dirgeflint_answer (*dac_play)(dirgeflint_dac *, uint32_t, uint8_t *, size_t);
-    void (*port_reset)(dirgeflint_port *);
-    void (*port_write_address)(dirgeflint_port *, uint8_t);
-    void (*port_write_attribute)(dirgeflint_port *, uint8_t);
-    void (*port_write_character)(dirgeflint_port *, uint8_t);
-    dirgeflint_answer (*paint)(const uint16_t *, size_t, const uint16_t *, size_t, dirgeflint_settings, uint32_t,
-                               uint32_t, uint32_t, uint8_t *, size_t);
-    dirgeflint_answer (*hex_read)(const uint8_t *, size_t, uint8_t *, size_t);
-    dirgeflint_answer (*hex_write)(const uint16_t *, size_t, uint8_t *, size_t);
-    dirgeflint_answer (*image_to_font)(const uint8_t *, size_t, uint16_t *, size_t);
+    CALLS(MEMBER)
 } face;
+
+#define AT_HAND(name) dirgeflint_##name,
+
+#ifdef SINCE
+
+/* Null where the earlier library has no such call. */
+#define DECLARED(name) extern __typeof__(dirgeflint_##name) since_dirgeflint_##name __attribute__((weak));
+CALLS(DECLARED)
+
+#define EARLIER(name) since_dirgeflint_##name,
+enum { LIBRARY, OTHER, SIDES };
+static face sides[SIDES] = { { CALLS(AT_HAND) }, { CALLS(EARLIER) } };
+
+#else
 
 /* Calls that lay as many bytes as those of the library, and do nothing else; a text and an image stay, as they are read. */
 static const dirgeflint_answer accepted = { 0, 0, 0 };
@@ -79,25 +93,19 @@ static dirgeflint_answer laid_font(const uint8_t *from, size_t from_length, uint
     return accepted;
 }
 
-enum { LIBRARY, BASELINE, LAID, SIDES };
-
-/* Not constant, so that the compiler cannot see through the calls. */
+#define BASELINE(name) fast_##name,
+enum { LIBRARY, OTHER, LAID, SIDES };
 static face sides[SIDES] = {
-    { dirgeflint_pulse_level,
-      dirgeflint_dac_reset, dirgeflint_dac_write_low, dirgeflint_dac_write_high, dirgeflint_dac_play,
-      dirgeflint_port_reset, dirgeflint_port_write_address, dirgeflint_port_write_attribute,
-      dirgeflint_port_write_character,
-      dirgeflint_paint,
-      dirgeflint_hex_read, dirgeflint_hex_write, dirgeflint_image_to_font },
-    { fast_pulse_level,
-      fast_dac_reset, fast_dac_write_low, fast_dac_write_high, fast_dac_play,
-      fast_port_reset, fast_port_write_address, fast_port_write_attribute, fast_port_write_character,
-      fast_paint,
-      fast_hex_read, fast_hex_write, fast_image_to_font },
+    { CALLS(AT_HAND) },
+    { CALLS(BASELINE) },
     { .dac_play = laid_play, .paint = laid_paint,
       .hex_read = laid_read, .hex_write = laid_write, .image_to_font = laid_font },
 };
-static face *volatile side[SIDES] = { &sides[LIBRARY], &sides[BASELINE], &sides[LAID] };
+
+#endif
+
+/* Volatile, so that the compiler cannot see through the calls. */
+static face *volatile side = sides;
 
 /* What a shape leaves behind, so that no work can be left out. */
 static volatile uint32_t seen;
@@ -107,7 +115,7 @@ typedef struct shape {
     const char *name;
     void (*work)(const face *, int);
     int size;
-    int sides; /* SIDES if a memset can stand beside it, else LAID */
+    const char *calls; /* those that it makes; a side that lacks one of them does not run it */
 } shape;
 
 static void pulse(const face *f, int size)
@@ -242,29 +250,30 @@ static void image_to_font(const face *f, int size)
 }
 
 static const shape shapes[] = {
-    { "pulse", "768 calls: each channel's period", pulse, 0, LAID },
-    { "dac", "a period in one call", dac, PERIOD, SIDES },
-    { "dac", "a period in calls of 128 clocks", dac, 128, SIDES },
-    { "dac", "a period in calls of 7 clocks", dac, 7, SIDES },
-    { "dac", "a period in calls of 1 clock", dac, 1, SIDES },
-    { "dac", "a reset and 500 pairs written", dac_writes, 500, LAID },
-    { "port", "130 calls: the whole RAM written", port, 0, LAID },
-    { "paint", "a frame of 1024 x 1024, sparse, size 1", sparse, 1, SIDES },
-    { "paint", "a frame of 1024 x 1024, sparse, size 2", sparse, 2, SIDES },
-    { "paint", "a frame of 1024 x 1024, sparse, size 3", sparse, 3, SIDES },
-    { "paint", "a frame of 1024 x 1024, sparse, size 4", sparse, 4, SIDES },
-    { "paint", "a frame of 1024 x 1024, full, size 1", full, 1, SIDES },
-    { "paint", "a frame of 1024 x 1024, full, size 2", full, 2, SIDES },
-    { "paint", "a frame of 1024 x 1024, full, size 3", full, 3, SIDES },
-    { "paint", "a frame of 1024 x 1024, full, size 4", full, 4, SIDES },
-    { "paint", "1,024 lines, all through cells of size 1", cut, 1, SIDES },
-    { "paint", "1,024 lines, all through cells of size 2", cut, 2, SIDES },
-    { "paint", "1,024 lines, all through cells of size 3", cut, 3, SIDES },
-    { "paint", "1,024 lines, all through cells of size 4", cut, 4, SIDES },
-    { "hex", "a font's text written", hex_write, 0, SIDES },
-    { "hex", "a font's text read", hex_read, 0, SIDES },
-    { "hex", "image to font", image_to_font, 0, SIDES },
-    { NULL, NULL, NULL, 0, 0 },
+    { "pulse", "768 calls: each channel's period", pulse, 0, "pulse_level" },
+    { "dac", "a period in one call", dac, PERIOD, "dac_play" },
+    { "dac", "a period in calls of 128 clocks", dac, 128, "dac_play" },
+    { "dac", "a period in calls of 7 clocks", dac, 7, "dac_play" },
+    { "dac", "a period in calls of 1 clock", dac, 1, "dac_play" },
+    { "dac", "a reset and 500 pairs written", dac_writes, 500, "dac_reset dac_write_low dac_write_high" },
+    { "port", "130 calls: the whole RAM written", port, 0,
+      "port_reset port_write_address port_write_attribute port_write_character" },
+    { "paint", "a frame of 1024 x 1024, sparse, size 1", sparse, 1, "paint" },
+    { "paint", "a frame of 1024 x 1024, sparse, size 2", sparse, 2, "paint" },
+    { "paint", "a frame of 1024 x 1024, sparse, size 3", sparse, 3, "paint" },
+    { "paint", "a frame of 1024 x 1024, sparse, size 4", sparse, 4, "paint" },
+    { "paint", "a frame of 1024 x 1024, full, size 1", full, 1, "paint" },
+    { "paint", "a frame of 1024 x 1024, full, size 2", full, 2, "paint" },
+    { "paint", "a frame of 1024 x 1024, full, size 3", full, 3, "paint" },
+    { "paint", "a frame of 1024 x 1024, full, size 4", full, 4, "paint" },
+    { "paint", "1,024 lines, all through cells of size 1", cut, 1, "paint" },
+    { "paint", "1,024 lines, all through cells of size 2", cut, 2, "paint" },
+    { "paint", "1,024 lines, all through cells of size 3", cut, 3, "paint" },
+    { "paint", "1,024 lines, all through cells of size 4", cut, 4, "paint" },
+    { "hex", "a font's text written", hex_write, 0, "hex_write" },
+    { "hex", "a font's text read", hex_read, 0, "hex_read" },
+    { "hex", "image to font", image_to_font, 0, "image_to_font" },
+    { NULL, NULL, NULL, 0, NULL },
 };
 
 /* One play of `size` clocks, from wherever the last one ended. */
@@ -314,23 +323,23 @@ static void one_read(const face *f, int size)
 }
 
 static const shape growth[] = {
-    { "dac", "play, by clocks", one_play, 1, BASELINE },
-    { "dac", "play, by clocks", one_play, 7, BASELINE },
-    { "dac", "play, by clocks", one_play, 128, BASELINE },
-    { "dac", "play, by clocks", one_play, 1024, BASELINE },
-    { "dac", "play, by clocks", one_play, 16384, BASELINE },
-    { "paint", "paint 64 cells, by dots", one_width, 0, BASELINE },
-    { "paint", "paint 64 cells, by dots", one_width, 64, BASELINE },
-    { "paint", "paint 64 cells, by dots", one_width, 256, BASELINE },
-    { "paint", "paint 64 cells, by dots", one_width, 1024, BASELINE },
-    { "paint", "paint 1,024 dots, by cells", one_row, 0, BASELINE },
-    { "paint", "paint 1,024 dots, by cells", one_row, 16, BASELINE },
-    { "paint", "paint 1,024 dots, by cells", one_row, 64, BASELINE },
-    { "hex", "read, by data records", one_read, 0, BASELINE },
-    { "hex", "read, by data records", one_read, 32, BASELINE },
-    { "hex", "read, by data records", one_read, 128, BASELINE },
-    { "hex", "read, by data records", one_read, 512, BASELINE },
-    { NULL, NULL, NULL, 0, 0 },
+    { "dac", "play, by clocks", one_play, 1, "dac_play" },
+    { "dac", "play, by clocks", one_play, 7, "dac_play" },
+    { "dac", "play, by clocks", one_play, 128, "dac_play" },
+    { "dac", "play, by clocks", one_play, 1024, "dac_play" },
+    { "dac", "play, by clocks", one_play, 16384, "dac_play" },
+    { "paint", "paint 64 cells, by dots", one_width, 0, "paint" },
+    { "paint", "paint 64 cells, by dots", one_width, 64, "paint" },
+    { "paint", "paint 64 cells, by dots", one_width, 256, "paint" },
+    { "paint", "paint 64 cells, by dots", one_width, 1024, "paint" },
+    { "paint", "paint 1,024 dots, by cells", one_row, 0, "paint" },
+    { "paint", "paint 1,024 dots, by cells", one_row, 16, "paint" },
+    { "paint", "paint 1,024 dots, by cells", one_row, 64, "paint" },
+    { "hex", "read, by data records", one_read, 0, "hex_read" },
+    { "hex", "read, by data records", one_read, 32, "hex_read" },
+    { "hex", "read, by data records", one_read, 128, "hex_read" },
+    { "hex", "read, by data records", one_read, 512, "hex_read" },
+    { NULL, NULL, NULL, 0, NULL },
 };
 
 /* The side that is checked before it is timed, and the number of its latest refusal. */
@@ -391,7 +400,7 @@ static void check(const shape *s, const face *f)
     s->work(&through, s->size);
     if (refused != 0) {
         fprintf(stderr, "bench: %s, %s: the %s refuses with %u\n", s->part, s->name,
-                f == side[LIBRARY] ? "library" : "baseline", (unsigned)refused);
+                f == &side[LIBRARY] ? "library" : "other side", (unsigned)refused);
         exit(1);
     }
 }
@@ -421,22 +430,34 @@ static int by_size(const void *a, const void *b)
     return (x > y) - (x < y);
 }
 
-/* The median time of each side of the shape, over rounds in which they take turns. */
-static void race(const shape *s, double medians[SIDES])
+static bool has(const face *f, const char *calls)
+{
+#define LACKING(name) || (f->name == NULL && strstr(calls, #name) != NULL)
+    return !(false CALLS(LACKING));
+}
+
+/* The median times of the first sides of the shape, over rounds in which they take turns; -1 for one that lacks a call. */
+static void race(const shape *s, int count, double medians[SIDES])
 {
     double times[SIDES][ROUNDS];
     long repeats[SIDES];
-    for (int i = 0; i < s->sides; i++)
-        check(s, side[i]);
-    for (int i = 0; i < s->sides; i++)
-        repeats[i] = repeats_for(s, side[i]);
-    for (int round = 0; round < ROUNDS; round++)
-        for (int i = 0; i < s->sides; i++)
-            times[i][round] = timed(s, side[i], repeats[i]);
-    for (int i = 0; i < s->sides; i++) {
-        qsort(times[i], ROUNDS, sizeof times[i][0], by_size);
-        medians[i] = times[i][ROUNDS / 2];
+    for (int i = 0; i < SIDES; i++) {
+        medians[i] = -1;
+        repeats[i] = 0;
+        if (i < count && has(&side[i], s->calls)) {
+            check(s, &side[i]);
+            repeats[i] = repeats_for(s, &side[i]);
+        }
     }
+    for (int round = 0; round < ROUNDS; round++)
+        for (int i = 0; i < SIDES; i++)
+            if (repeats[i] > 0)
+                times[i][round] = timed(s, &side[i], repeats[i]);
+    for (int i = 0; i < SIDES; i++)
+        if (repeats[i] > 0) {
+            qsort(times[i], ROUNDS, sizeof times[i][0], by_size);
+            medians[i] = times[i][ROUNDS / 2];
+        }
 }
 
 static bool wanted(const char *part, int count, char **parts)
@@ -462,22 +483,23 @@ int main(int count, char **words)
         }
     }
     /* So that reading has a text and an image even if the shapes before it are not run. */
-    hex_write(side[BASELINE], 0);
-    hex_read(side[BASELINE], 0);
+    hex_write(&side[LIBRARY], 0);
+    hex_read(&side[LIBRARY], 0);
     for (const shape *s = grow ? growth : shapes; s->part != NULL; s++) {
         double medians[SIDES];
         if (!wanted(s->part, count, parts))
             continue;
-        race(s, medians);
+        race(s, grow ? OTHER : SIDES, medians);
         if (grow)
-            printf("%s\t%d\t%.1f\n", s->name, s->size, medians[LIBRARY]);
-        else {
-            printf("%s\t%s\t%.1f\t%.1f\t", s->part, s->name, medians[LIBRARY], medians[BASELINE]);
-            if (s->sides == SIDES)
-                printf("%.1f\n", medians[LAID]);
+            printf("%s\t%d", s->name, s->size);
+        else
+            printf("%s\t%s", s->part, s->name);
+        for (int i = 0; i < (grow ? OTHER : SIDES); i++)
+            if (medians[i] < 0)
+                printf("\t-");
             else
-                puts("-");
-        }
+                printf("\t%.1f", medians[i]);
+        puts("");
     }
     return 0;
 }

@@ -21,6 +21,13 @@ pub fn words(line: &[u8]) -> Vec<&[u8]> {
     line.split(is_blank).filter(|word| !word.is_empty()).collect()
 }
 
+/// The lines of a screen or of events that say something, by their numbers from 1: the words before a comment.
+pub fn statements(text: &[u8]) -> impl Iterator<Item = (usize, Vec<&[u8]>)> {
+    let said = |line: &[u8]| line.iter().position(|byte| b";#".contains(byte)).unwrap_or(line.len());
+    let all = lines(text).into_iter().enumerate().map(move |(index, line)| (index + 1, words(&line[..said(line)])));
+    all.filter(|(_, words)| !words.is_empty())
+}
+
 /// A line without the blanks at its end.
 pub fn trimmed(line: &[u8]) -> &[u8] {
     let blanks = line.iter().rev().take_while(|byte| is_blank(byte)).count();

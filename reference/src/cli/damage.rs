@@ -5,7 +5,7 @@
 //! output file that is complete or as it was.
 
 use super::case::{case, Case, Said};
-use super::expect::{check, font, play, show, whole_font, Paint, To, OUTPUT};
+use super::expect::{check, font, play, show, whole_font, Paint, To, OUTPUT, PAINT_OPTIONS};
 use super::randomly::{events_text, font_text, number, screen_text};
 use super::table::{SAMPLE_DRAWING, SAMPLE_TEXT};
 use super::text::BYTE_ORDER_MARK;
@@ -192,31 +192,17 @@ fn some_events(random: &mut Random) -> Vec<u8> {
 
 /// A word of a command line, right or not.
 fn argument(command: &str, random: &mut Random) -> Vec<u8> {
-    const OPTIONS: &[&str] = &[
-        "--whole",
-        "--off",
-        "--text",
-        "--mode",
-        "--colour",
-        "--h",
-        "--v",
-        "--ratio",
-        "--frequency",
-        "--frame",
-        "--width",
-        "--lines",
-        "--font",
-        "--nothing",
-        "-x",
-    ];
+    // Where the output goes is said by `words`.
+    let others = ["--whole", "--nothing", "-x"];
+    let options: Vec<&str> = PAINT_OPTIONS.iter().copied().filter(|&option| option != "-o").chain(others).collect();
     let value = |random: &mut Random| match random.below(4) {
         0 => number(random.double_word(), random),
         1 => random.pick(WORDS).to_string(),
         _ => random.below(70).to_string(),
     };
     match random.below(8) {
-        0..=2 => random.pick(OPTIONS).into(),
-        3 => format!("{}={}", random.pick(OPTIONS), value(random)).into(),
+        0..=2 => random.pick(&options).into(),
+        3 => format!("{}={}", random.pick(&options), value(random)).into(),
         4 => random.pick(&["f.hex", "d.txt", "s", "e", "-", "", "none", "."]).into(),
         5 if command != "help" => (0..random.between(1, 40)).map(|_| random.byte() | 1).collect(),
         _ => value(random).into(),

@@ -27,6 +27,23 @@ pub enum To {
 pub const OUTPUT: &str = "out";
 const OLD: &[u8] = b"what was there before\n";
 
+/// The options of `paint`.
+pub const PAINT_OPTIONS: &[&str] = &[
+    "--font",
+    "--mode",
+    "--colour",
+    "--h",
+    "--v",
+    "--ratio",
+    "--frequency",
+    "--off",
+    "--frame",
+    "--width",
+    "--lines",
+    "--text",
+    "-o",
+];
+
 /// The name of a file in a message, and in what `check` prints: control characters are shown by their numbers.
 pub fn named(file: &str) -> String {
     if file == "-" {

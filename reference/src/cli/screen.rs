@@ -1,18 +1,12 @@
 //! Screens: their words, and the picture that `paint` makes of them.
 
-use crate::lines::{lines, number, words};
+use crate::lines::{number, statements};
 use crate::model::display::{self, cells, WIDEST, WORDS};
 use crate::model::Refusal;
 use crate::parts::{PaintOrder, Settings};
 
 pub const COLOURS: [&str; 8] = ["black", "blue", "green", "cyan", "red", "magenta", "yellow", "white"];
 pub const END: u16 = 1009;
-
-/// A line of a screen or of events without its comment.
-pub fn without_comment(line: &[u8]) -> &[u8] {
-    let end = line.iter().position(|&byte| byte == b';' || byte == b'#').unwrap_or(line.len());
-    &line[..end]
-}
 
 fn at_most(word: &[u8], most: u32) -> Option<u32> {
     number(word).filter(|&number| number <= most)
@@ -43,18 +37,14 @@ fn display_word(line: &[&[u8]]) -> Option<u32> {
 
 /// Whether a screen or a file of events says nothing at all.
 pub fn is_empty(text: &[u8]) -> bool {
-    lines(text).into_iter().all(|line| words(without_comment(line)).is_empty())
+    statements(text).next().is_none()
 }
 
 /// The 64 words of a screen, or the number of the line that is wrong.
 pub fn screen(text: &[u8]) -> Result<Vec<u16>, usize> {
     let mut screen = Vec::new();
-    for (index, line) in lines(text).into_iter().enumerate() {
-        let line = words(without_comment(line));
-        if line.is_empty() {
-            continue;
-        }
-        let word = display_word(&line).filter(|_| screen.len() < WORDS).ok_or(index + 1)?;
+    for (number, line) in statements(text) {
+        let word = display_word(&line).filter(|_| screen.len() < WORDS).ok_or(number)?;
         screen.push(word as u16);
     }
     screen.resize(WORDS, END);

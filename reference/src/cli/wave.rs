@@ -1,7 +1,6 @@
 //! Events for the DAC: the periods and the wave that `play` makes of them.
 
-use super::screen::without_comment;
-use crate::lines::{lines, number, words};
+use crate::lines::{number, statements};
 use crate::model::dac;
 use crate::parts::{Pair, RunningRecord};
 use std::fmt::Write;
@@ -36,15 +35,11 @@ fn event(line: &[&[u8]]) -> Option<Event> {
 pub fn events(text: &[u8]) -> Result<Vec<Event>, Vec<Fault>> {
     let mut events = Vec::new();
     let mut faults = Vec::new();
-    for (index, line) in lines(text).into_iter().enumerate() {
-        let line = words(without_comment(line));
-        if line.is_empty() {
-            continue;
-        }
+    for (number, line) in statements(text) {
         match event(&line) {
-            Some(Event::Play(clocks)) if clocks > 16384 => faults.push(Fault { line: index + 1, refused: true }),
+            Some(Event::Play(clocks)) if clocks > 16384 => faults.push(Fault { line: number, refused: true }),
             Some(event) => events.push(event),
-            None => faults.push(Fault { line: index + 1, refused: false }),
+            None => faults.push(Fault { line: number, refused: false }),
         }
     }
     if faults.is_empty() {

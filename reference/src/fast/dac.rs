@@ -1,6 +1,7 @@
 //! The DAC by fills: two for each sub-period touched.
 
-use crate::parts::{Answer, Pair, RunningRecord};
+use super::Fast;
+use crate::parts::{Answer, Dac, Pair, RunningRecord};
 
 const PERIOD_MASK: u16 = 16383;
 
@@ -15,49 +16,51 @@ fn reduce(record: &mut RunningRecord) {
     record.in_force = reduced(record.in_force);
 }
 
-pub fn reset(record: &mut RunningRecord) {
-    *record = RunningRecord::default();
-}
-
-pub fn write_low(record: &mut RunningRecord, byte: u8) {
-    reduce(record);
-    record.held.fine = byte & 127;
-}
-
-pub fn write_high(record: &mut RunningRecord, byte: u8) {
-    reduce(record);
-    record.held.coarse = byte & 127;
-    record.completed = record.held;
-}
-
 /// The high clocks of a sub-period. A marker above bit 6 gives sub-period 0 a bit that no fine half has.
 fn high_clocks(pair: Pair, sub_period: u16) -> usize {
     let served = (sub_period | 128).trailing_zeros();
     usize::from(pair.coarse) + usize::from((u16::from(pair.fine) << served) >> 6 & 1)
 }
 
-pub fn play(record: &mut RunningRecord, clocks: u32, levels: &mut [u8]) -> Answer {
-    if clocks > 16384 || clocks as usize > levels.len() {
-        return Answer::refused(14, 0);
+impl Dac for Fast {
+    fn reset(&self, record: &mut RunningRecord) {
+        *record = RunningRecord::default();
     }
-    if clocks == 0 {
-        return Answer::accepted(0);
+
+    fn write_low(&self, record: &mut RunningRecord, byte: u8) {
+        reduce(record);
+        record.held.fine = byte & 127;
     }
-    reduce(record);
-    let mut rest = &mut levels[..clocks as usize];
-    while !rest.is_empty() {
-        if record.position == 0 {
-            record.in_force = record.completed;
+
+    fn write_high(&self, record: &mut RunningRecord, byte: u8) {
+        reduce(record);
+        record.held.coarse = byte & 127;
+        record.completed = record.held;
+    }
+
+    fn play(&self, record: &mut RunningRecord, clocks: u32, levels: &mut [u8]) -> Answer {
+        if clocks > 16384 || clocks as usize > levels.len() {
+            return Answer::refused(14, 0);
         }
-        let clock = usize::from(record.position & 127);
-        let run = rest.len().min(128 - clock);
-        let high = high_clocks(record.in_force, record.position >> 7).saturating_sub(clock).min(run);
-        let (now, later) = rest.split_at_mut(run);
-        let (ones, zeros) = now.split_at_mut(high);
-        ones.fill(1);
-        zeros.fill(0);
-        rest = later;
-        record.position = (record.position + run as u16) & PERIOD_MASK;
+        if clocks == 0 {
+            return Answer::accepted(0);
+        }
+        reduce(record);
+        let mut rest = &mut levels[..clocks as usize];
+        while !rest.is_empty() {
+            if record.position == 0 {
+                record.in_force = record.completed;
+            }
+            let clock = usize::from(record.position & 127);
+            let run = rest.len().min(128 - clock);
+            let high = high_clocks(record.in_force, record.position >> 7).saturating_sub(clock).min(run);
+            let (now, later) = rest.split_at_mut(run);
+            let (ones, zeros) = now.split_at_mut(high);
+            ones.fill(1);
+            zeros.fill(0);
+            rest = later;
+            record.position = (record.position + run as u16) & PERIOD_MASK;
+        }
+        Answer::accepted(0)
     }
-    Answer::accepted(0)
 }

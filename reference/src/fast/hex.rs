@@ -1,6 +1,7 @@
 //! The hex text in one pass over its bytes, with tables for the digits.
 
-use crate::parts::Answer;
+use super::Fast;
+use crate::parts::{Answer, Hex};
 
 const IMAGE_BYTES: usize = 8192;
 const FONT_ROWS: usize = 1116;
@@ -69,54 +70,6 @@ fn record<'a>(rest: &[u8], bytes: &'a mut [u8; 260]) -> Option<(&'a [u8], usize)
     Some((bytes, next))
 }
 
-pub fn read(text: &[u8], image: &mut [u8]) -> Answer {
-    if image.len() < IMAGE_BYTES {
-        return Answer::refused(6, 0);
-    }
-    if text.len() > 65_535 {
-        return Answer::refused(7, 0);
-    }
-    // Nothing lent may be touched before the whole text is known to be good.
-    let mut draft = [0xFF; IMAGE_BYTES];
-    let mut given = [false; IMAGE_BYTES];
-    let mut buffer = [0; 260];
-    let mut count = 0;
-    let mut start = 0;
-    while start < text.len() {
-        let place = start as u32;
-        let Some((bytes, length)) = record(&text[start..], &mut buffer) else {
-            return Answer::refused(7, place);
-        };
-        start += length;
-        if bytes.iter().fold(0u8, |sum, &byte| sum.wrapping_add(byte)) != 0 {
-            return Answer::refused(8, place);
-        }
-        let address = usize::from(bytes[1]) << 8 | usize::from(bytes[2]);
-        if bytes[3] == 1 && bytes[0] == 0 && address == 0 {
-            if start < text.len() {
-                return Answer::refused(12, start as u32);
-            }
-            image[..IMAGE_BYTES].copy_from_slice(&draft);
-            return Answer::accepted(count);
-        }
-        if bytes[3] != 0 {
-            return Answer::refused(9, place);
-        }
-        let data = &bytes[4..bytes.len() - 1];
-        let Some(target) = draft.get_mut(address..address + data.len()) else {
-            return Answer::refused(10, place);
-        };
-        let marks = &mut given[address..address + data.len()];
-        if marks.iter().fold(false, |any, &mark| any | mark) {
-            return Answer::refused(11, place);
-        }
-        marks.fill(true);
-        target.copy_from_slice(data);
-        count += data.len() as u32;
-    }
-    Answer::refused(12, text.len() as u32)
-}
-
 fn image_of(font: &[u16], image: &mut [u8; IMAGE_BYTES]) {
     image.fill(0xFF);
     let (low, high) = image.split_at_mut(4096);
@@ -132,34 +85,6 @@ fn put(byte: u8, text: &mut [u8]) {
     text.copy_from_slice(&DIGITS[usize::from(byte)]);
 }
 
-pub fn write(font: &[u16], text: &mut [u8]) -> Answer {
-    if font.len() != FONT_ROWS || font.iter().fold(0, |all, row| all | row) > 4095 {
-        return Answer::refused(4, 0);
-    }
-    if text.len() < TEXT_BYTES {
-        return Answer::refused(6, 0);
-    }
-    let mut image = [0; IMAGE_BYTES];
-    image_of(font, &mut image);
-    let (records, rest) = text.split_at_mut(512 * 44);
-    for ((number, data), line) in image.chunks_exact(16).enumerate().zip(records.chunks_exact_mut(44)) {
-        let address = (16 * number as u16).to_be_bytes();
-        line[..3].copy_from_slice(b":10");
-        put(address[0], &mut line[3..5]);
-        put(address[1], &mut line[5..7]);
-        line[7..9].copy_from_slice(b"00");
-        let mut sum = 16u8.wrapping_add(address[0]).wrapping_add(address[1]);
-        for (byte, digits) in data.iter().zip(line[9..41].chunks_exact_mut(2)) {
-            sum = sum.wrapping_add(*byte);
-            put(*byte, digits);
-        }
-        put(sum.wrapping_neg(), &mut line[41..43]);
-        line[43] = b'\n';
-    }
-    rest[..12].copy_from_slice(b":00000001FF\n");
-    Answer::accepted(0)
-}
-
 /// The bits that must be set at each address.
 const DUE: [u8; IMAGE_BYTES] = {
     let mut due = [0xFF; IMAGE_BYTES];
@@ -173,20 +98,98 @@ const DUE: [u8; IMAGE_BYTES] = {
     due
 };
 
-pub fn image_to_font(image: &[u8], font: &mut [u16]) -> Answer {
-    if image.len() != IMAGE_BYTES || font.len() != FONT_ROWS {
-        return Answer::refused(13, 0);
-    }
-    // One pass that vectorises finds whether anything is missing; only then is the place looked for.
-    if image.iter().zip(&DUE).fold(0, |missing, (byte, due)| missing | !byte & due) != 0 {
-        let place = image.iter().zip(&DUE).position(|(byte, due)| !byte & due != 0);
-        return Answer::refused(13, place.unwrap_or(0) as u32);
-    }
-    let (low, high) = image.split_at(4096);
-    for ((rows, low), high) in font.chunks_exact_mut(18).zip(low.chunks_exact(32)).zip(high.chunks_exact(32)) {
-        for ((row, low), high) in rows.iter_mut().zip(low).zip(high) {
-            *row = u16::from(*high & 15) << 8 | u16::from(*low);
+impl Hex for Fast {
+    fn read(&self, text: &[u8], image: &mut [u8]) -> Answer {
+        if image.len() < IMAGE_BYTES {
+            return Answer::refused(6, 0);
         }
+        if text.len() > 65_535 {
+            return Answer::refused(7, 0);
+        }
+        // Nothing lent may be touched before the whole text is known to be good.
+        let mut draft = [0xFF; IMAGE_BYTES];
+        let mut given = [false; IMAGE_BYTES];
+        let mut buffer = [0; 260];
+        let mut count = 0;
+        let mut start = 0;
+        while start < text.len() {
+            let place = start as u32;
+            let Some((bytes, length)) = record(&text[start..], &mut buffer) else {
+                return Answer::refused(7, place);
+            };
+            start += length;
+            if bytes.iter().fold(0u8, |sum, &byte| sum.wrapping_add(byte)) != 0 {
+                return Answer::refused(8, place);
+            }
+            let address = usize::from(bytes[1]) << 8 | usize::from(bytes[2]);
+            if bytes[3] == 1 && bytes[0] == 0 && address == 0 {
+                if start < text.len() {
+                    return Answer::refused(12, start as u32);
+                }
+                image[..IMAGE_BYTES].copy_from_slice(&draft);
+                return Answer::accepted(count);
+            }
+            if bytes[3] != 0 {
+                return Answer::refused(9, place);
+            }
+            let data = &bytes[4..bytes.len() - 1];
+            let Some(target) = draft.get_mut(address..address + data.len()) else {
+                return Answer::refused(10, place);
+            };
+            let marks = &mut given[address..address + data.len()];
+            if marks.iter().fold(false, |any, &mark| any | mark) {
+                return Answer::refused(11, place);
+            }
+            marks.fill(true);
+            target.copy_from_slice(data);
+            count += data.len() as u32;
+        }
+        Answer::refused(12, text.len() as u32)
     }
-    Answer::accepted(0)
+
+    fn write(&self, font: &[u16], text: &mut [u8]) -> Answer {
+        if font.len() != FONT_ROWS || font.iter().fold(0, |all, row| all | row) > 4095 {
+            return Answer::refused(4, 0);
+        }
+        if text.len() < TEXT_BYTES {
+            return Answer::refused(6, 0);
+        }
+        let mut image = [0; IMAGE_BYTES];
+        image_of(font, &mut image);
+        let (records, rest) = text.split_at_mut(512 * 44);
+        for ((number, data), line) in image.chunks_exact(16).enumerate().zip(records.chunks_exact_mut(44)) {
+            let address = (16 * number as u16).to_be_bytes();
+            line[..3].copy_from_slice(b":10");
+            put(address[0], &mut line[3..5]);
+            put(address[1], &mut line[5..7]);
+            line[7..9].copy_from_slice(b"00");
+            let mut sum = 16u8.wrapping_add(address[0]).wrapping_add(address[1]);
+            for (byte, digits) in data.iter().zip(line[9..41].chunks_exact_mut(2)) {
+                sum = sum.wrapping_add(*byte);
+                put(*byte, digits);
+            }
+            put(sum.wrapping_neg(), &mut line[41..43]);
+            line[43] = b'\n';
+        }
+        rest[..12].copy_from_slice(b":00000001FF\n");
+        Answer::accepted(0)
+    }
+
+    fn image_to_font(&self, image: &[u8], font: &mut [u16]) -> Answer {
+        if image.len() != IMAGE_BYTES || font.len() != FONT_ROWS {
+            return Answer::refused(13, 0);
+        }
+        // One pass that vectorises finds whether anything is missing; only then is the place looked for.
+        if image.iter().zip(&DUE).fold(0, |missing, (byte, due)| missing | !byte & due) != 0 {
+            let place = image.iter().zip(&DUE).position(|(byte, due)| !byte & due != 0);
+            return Answer::refused(13, place.unwrap_or(0) as u32);
+        }
+        let (low, high) = image.split_at(4096);
+        for ((rows, low), high) in font.chunks_exact_mut(18).zip(low.chunks_exact(32)).zip(high.chunks_exact(32)) {
+            for ((row, low), high) in rows.iter_mut().zip(low).zip(high) {
+                *row = u16::from(*high & 15) << 8 | u16::from(*low);
+            }
+        }
+        Answer::accepted(0)
+    }
 }

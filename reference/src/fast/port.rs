@@ -1,6 +1,7 @@
 //! The write port by masks, in place.
 
-use crate::parts::PortRecord;
+use super::Fast;
+use crate::parts::{Port, PortRecord};
 
 fn cut(port: &mut PortRecord) {
     port.address &= 63;
@@ -11,23 +12,25 @@ fn cut(port: &mut PortRecord) {
     }
 }
 
-pub fn reset(port: &mut PortRecord) {
-    *port = PortRecord { address: 0, attribute: 0, character: 0, words: [0; 64] };
-}
+impl Port for Fast {
+    fn reset(&self, port: &mut PortRecord) {
+        *port = PortRecord { address: 0, attribute: 0, character: 0, words: [0; 64] };
+    }
 
-pub fn write_address(port: &mut PortRecord, byte: u8) {
-    cut(port);
-    port.address = byte & 63;
-}
+    fn write_address(&self, port: &mut PortRecord, byte: u8) {
+        cut(port);
+        port.address = byte & 63;
+    }
 
-pub fn write_attribute(port: &mut PortRecord, byte: u8) {
-    cut(port);
-    port.attribute = byte & 15;
-}
+    fn write_attribute(&self, port: &mut PortRecord, byte: u8) {
+        cut(port);
+        port.attribute = byte & 15;
+    }
 
-pub fn write_character(port: &mut PortRecord, byte: u8) {
-    cut(port);
-    port.character = byte & 63;
-    port.words[usize::from(port.address & 63)] = u16::from(port.character) << 4 | u16::from(port.attribute);
-    port.address = (port.address + 1) & 63;
+    fn write_character(&self, port: &mut PortRecord, byte: u8) {
+        cut(port);
+        port.character = byte & 63;
+        port.words[usize::from(port.address & 63)] = u16::from(port.character) << 4 | u16::from(port.attribute);
+        port.address = (port.address + 1) & 63;
+    }
 }

@@ -2,31 +2,14 @@
 
 use super::{END_RECORD, SAMPLE_DRAWING, SAMPLE_TEXT};
 use crate::cli::case::{case, Case, Line, Said};
-use crate::cli::expect::{check, misused, Paint};
+use crate::cli::expect::{check, misused, Paint, PAINT_OPTIONS};
 
 /// The commands with the options that their help has to name.
 const COMMANDS: &[(&str, &[&str])] = &[
     ("check", &["--whole"]),
     ("font", &["--whole", "-o"]),
     ("show", &["-o"]),
-    (
-        "paint",
-        &[
-            "--font",
-            "--mode",
-            "--colour",
-            "--h",
-            "--v",
-            "--ratio",
-            "--frequency",
-            "--off",
-            "--frame",
-            "--width",
-            "--lines",
-            "--text",
-            "-o",
-        ],
-    ),
+    ("paint", PAINT_OPTIONS),
     ("play", &["-o"]),
     ("pulse", &[]),
 ];
