@@ -126,4 +126,5 @@ pub record BitsAsks (font : List ℕ) (v : View) (y : Lines) (size shown : ℕ) 
   pub rows : length font ≡ fontRows
   pub code : shown < fontCells
   pub some : 1 ≤ size
+  pub most : size ≤ mostSize
   pub cut : Cut v y size

@@ -1,13 +1,13 @@
 // The painter of the on-screen display: one line of dots from display words, font, settings and frame number.
 ghost use mathlib.Core.Path.{_≡_};
-ghost use Prim.Native.Nat.{_≤_};
+ghost use Prim.Native.Nat.{_/_, _≤_};
 ghost use lib.ListN.{length};
 ghost use Rattle.laws.specs.Lines.{overlay};
 ghost use Rattle.laws.specs.Lists.{tabulate};
 ghost use Rattle.judging.specs.Judging.{answerOf, said, mostColour};
 ghost use Rattle.display.specs.Words.{kindOf};
 ghost use Rattle.display.specs.Cells.{placedWord, cellOf, rightOf, belowRow, rowPen, cellsFrom};
-ghost use Rattle.display.specs.Picture.{dotAt};
+ghost use Rattle.display.specs.Picture.{steadyOr, dotAt};
 ghost use Rattle.display.specs.Painting.{viewOf, screenOf, leftBy};
 ghost use Rattle.display.specs.Steps.{painted, shownBits, rowEnd, mostSize, mostSpacing, far, Sound, EndSound, Usable, RowAsks, CellAsks, DrawAsks, BitsAsks};
 use judging::Painted;
@@ -329,12 +329,31 @@ fn shown_bits(font: &[u16], view: View, y: Lines, size: usize, code: usize, blin
     requires { ⌜ BitsAsks (now font) view y size code ⌝ }
     ensures { λ r. ⌜ r ≡ shownBits (now (font .entry)) view y size code blink ⌝ }
 {
-    let line = view.line.0;
-    let at = font::CELL_ROWS * code + (line - y.0) / size;
-    let bits = font[at];
-    if blink {
-        if view.lit { bits } else { 0 }
+    if shows(blink, view.lit) {
+        let row = cut_row(view.line.0 - y.0, size);
+        let at = font::CELL_ROWS * code + row;
+        font[at]
     } else {
-        bits
+        0
+    }
+}
+
+// Whether a character shows its dots, blinking ones being lit or not.
+fn shows(blink: bool, lit: bool) -> bool
+    ensures { λ r. ⌜ r ≡ steadyOr blink lit ⌝ }
+{
+    if blink { lit } else { true }
+}
+
+// The row of a cell that a line so far below its top cuts. There are four sizes only, and to divide by a number that is known is quick.
+fn cut_row(distance: usize, size: usize) -> usize
+    requires { ⌜ (1 ≤ size) × (size ≤ mostSize) ⌝ }
+    ensures { λ r. ⌜ r ≡ distance / size ⌝ }
+{
+    match size {
+        1 => distance,
+        2 => distance / 2,
+        3 => distance / 3,
+        _ => distance / 4,
     }
 }
