@@ -57,12 +57,12 @@ install:
 	    case $$folder in *[\'\"\|\&\\\`\$$\#]*) bad=yes ;; *) bad=`printf '%s' "$$folder" | wc -l | tr -d ' 0'` ;; esac; \
 	    test -z "$$bad" || { printf 'make install: a folder may have no newline and none of '"'"' " | & \\ ` $$ #: %s\n' "$$folder" >&2; exit 1; }; \
 	done
-	$(INSTALL) -d "$$TO$$TO_BIN" "$$TO$$TO_LIB/pkgconfig" "$$TO$$TO_INCLUDE" "$$TO$$TO_MAN/man1" "$$TO$$TO_DOC/samples"
+	$(INSTALL) -d "$$TO$$TO_BIN" "$$TO$$TO_LIB/pkgconfig" "$$TO$$TO_INCLUDE" "$$TO$$TO_MAN/man1" "$$TO$$TO_DOC/docs" "$$TO$$TO_DOC/samples"
 	$(INSTALL) -m 755 $(PROGRAM) "$$TO$$TO_BIN/dirgeflint"
 	$(INSTALL) -m 644 $(LIBRARY) "$$TO$$TO_LIB/libdirgeflint.a"
 	$(INSTALL) -m 644 $(HEADER) "$$TO$$TO_INCLUDE/dirgeflint.h"
 	$(INSTALL) -m 644 cli/dirgeflint.1 "$$TO$$TO_MAN/man1/dirgeflint.1"
-	$(INSTALL) -m 644 $(PAGES) "$$TO$$TO_DOC"
+	for file in $(PAGES); do $(INSTALL) -m 644 "$$file" "$$TO$$TO_DOC/$$file" || exit; done
 	$(INSTALL) -m 644 $(SAMPLES) "$$TO$$TO_DOC/samples"
 	sed -e "s|@PREFIX@|$$TO_PREFIX|; s|@LIBDIR@|$$TO_LIB|; s|@INCLUDEDIR@|$$TO_INCLUDE|; s|@VERSION@|$(VERSION)|" dirgeflint.pc.in \
 	    >"$$TO$$TO_LIB/pkgconfig/dirgeflint.pc"
@@ -71,9 +71,8 @@ install:
 uninstall:
 	rm -f "$$TO$$TO_BIN/dirgeflint" "$$TO$$TO_LIB/libdirgeflint.a" "$$TO$$TO_INCLUDE/dirgeflint.h" \
 	    "$$TO$$TO_MAN/man1/dirgeflint.1" "$$TO$$TO_LIB/pkgconfig/dirgeflint.pc"
-	for file in $(PAGES); do rm -f "$$TO$$TO_DOC/$${file##*/}"; done
-	for file in $(SAMPLES); do rm -f "$$TO$$TO_DOC/$$file"; done
-	rmdir "$$TO$$TO_DOC/samples" "$$TO$$TO_DOC" 2>/dev/null || :
+	for file in $(PAGES) $(SAMPLES); do rm -f "$$TO$$TO_DOC/$$file"; done
+	rmdir "$$TO$$TO_DOC/docs" "$$TO$$TO_DOC/samples" "$$TO$$TO_DOC" 2>/dev/null || :
 
 clean:
 	rm -rf target/cli

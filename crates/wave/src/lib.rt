@@ -82,16 +82,10 @@ fn whole(levels: &mut [u8], clock: u8, high: u8)
     let mut c = clock;
     let mut i = 0usize;
     while i < SUB_PERIOD {
-        levels[i] = level_below(c, high);
+        levels[i] = level_below(c as usize, high as usize);
         c += 1;
         i += 1;
     }
-}
-
-fn level_below(clock: u8, high: u8) -> u8
-    ensures { λ r. ⌜ r ≡ levelBelow clock high ⌝ }
-{
-    if clock < high { 1 } else { 0 }
 }
 
 // The levels from a clock of a sub-period on, byte by byte: high up to the turn.
@@ -101,15 +95,16 @@ fn stretch(levels: &mut [u8], clock: usize, high: usize)
     let turn = beyond(high, clock);
     let mut i = 0usize;
     while i < levels.len() {
-        levels[i] = level_before(i, turn);
+        levels[i] = level_below(i, turn);
         i += 1;
     }
 }
 
-fn level_before(i: usize, turn: usize) -> u8
-    ensures { λ r. ⌜ r ≡ levelBelow i turn ⌝ }
+// High up to the turn.
+fn level_below(clock: usize, turn: usize) -> u8
+    ensures { λ r. ⌜ r ≡ levelBelow clock turn ⌝ }
 {
-    if i < turn { 1 } else { 0 }
+    if clock < turn { 1 } else { 0 }
 }
 
 // How many clocks of sub-period n are high.

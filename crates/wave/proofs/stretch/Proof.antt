@@ -26,8 +26,8 @@ beyond-requires c κs = search needs
 loop-holds : tie.Need-loop-holds Inv-loop μ-loop
 loop-holds c = (omega arith, filled-none _ _)
 
-level-before-requires : tie.Need-level-before-requires Inv-loop μ-loop
-level-before-requires c κs = search needs
+level-below-requires : tie.Need-level-below-requires Inv-loop μ-loop
+level-below-requires c κs = search needs
 
 slice-write-levels : tie.Need-slice-write-levels Inv-loop μ-loop
 slice-write-levels c = omega arith
@@ -41,7 +41,7 @@ loop-less c = omega arith
 loop-again : tie.Need-loop-again Inv-loop μ-loop
 loop-again c =
     let l = (let p : tie.At-loop Inv-loop μ-loop = search in p .loop) in
-    let level = (let p : tie.After-level-before Inv-loop μ-loop = search in p .level-before .ensures) in
+    let level = (let p : tie.After-level-below Inv-loop μ-loop = search in p .level-below .ensures) in
     (omega arith, filled-more _ (l .i) (l .levels) _ _ (omega arith) level (l .inv .1))
 
 same-length : tie.Need-same-length Inv-loop μ-loop
@@ -59,4 +59,4 @@ returns c =
 
 pub stretch-spec : {M : Type 1} → statement M
 stretch-spec =
-    tie.close (tie.spec Inv-loop μ-loop beyond-requires loop-holds level-before-requires slice-write-levels add-i loop-less loop-again same-length returns)
+    tie.close (tie.spec Inv-loop μ-loop beyond-requires loop-holds level-below-requires slice-write-levels add-i loop-less loop-again same-length returns)

@@ -23,6 +23,9 @@ abbrev μ-loop : tie.MeasureT-loop
 loop-holds : tie.Need-loop-holds Inv-loop μ-loop
 loop-holds c = (omega arith, omega arith, filled-none _ _)
 
+cast-level-below : tie.Need-cast-level-below Inv-loop μ-loop
+cast-level-below c = omega arith
+
 level-below-requires : tie.Need-level-below-requires Inv-loop μ-loop
 level-below-requires c κs = search needs
 
@@ -62,4 +65,4 @@ returns c =
 
 pub whole-spec : {M : Type 1} → statement M
 whole-spec =
-    tie.close (tie.spec Inv-loop μ-loop loop-holds level-below-requires slice-write-levels add-c add-i loop-less loop-again same-length returns)
+    tie.close (tie.spec Inv-loop μ-loop loop-holds cast-level-below level-below-requires slice-write-levels add-c add-i loop-less loop-again same-length returns)
