@@ -13,11 +13,13 @@ enum { DEPTH = 1 << 18 };
 /* Two marks, because a call may happen to leave a byte that equals one of them. */
 static const unsigned char marks[2] = { 0xA5, 0x5A };
 
-/* One function writes an array that it never reads, the other reads one that it never writes: so the warnings of that are off for the two. */
+/* gcc warns of an array that is never read, as in mark, and of one that is never written, as in depth. */
+#if defined __GNUC__ && !defined __clang__
 #pragma GCC diagnostic push
 #pragma GCC diagnostic ignored "-Wunused-but-set-variable"
 #pragma GCC diagnostic ignored "-Wuninitialized"
 #pragma GCC diagnostic ignored "-Wmaybe-uninitialized"
+#endif
 __attribute__((noinline)) static void mark(unsigned char byte)
 {
     volatile unsigned char room[DEPTH];
@@ -39,7 +41,9 @@ __attribute__((noinline)) static size_t depth(unsigned char byte)
         i++;
     return DEPTH - i;
 }
+#if defined __GNUC__ && !defined __clang__
 #pragma GCC diagnostic pop
+#endif
 
 /* Both see the same memory only if nothing comes between them, so a call goes through a pointer, with no arguments. */
 static size_t deepest;

@@ -122,9 +122,9 @@ pub record DrawAsks (font : List ℕ) (v : View) (c : Placed) (background : ℕ)
   pub cut : Cut v (c .y) (c .size)
 
 -- what `shown_bits` asks: a character of the font
-pub record BitsAsks (font : List ℕ) (v : View) (y : Lines) (size shown : ℕ) : Type 0 where
+pub record BitsAsks (font : List ℕ) (v : View) (y : Lines) (s shown : ℕ) : Type 0 where
   pub rows : length font ≡ fontRows
   pub code : shown < fontCells
-  pub some : 1 ≤ size
-  pub most : size ≤ mostSize
-  pub cut : Cut v y size
+  pub some : 1 ≤ s
+  pub size : s ≤ mostSize
+  pub cut : Cut v y s

@@ -338,14 +338,14 @@ fn shown_bits(font: &[u16], view: View, y: Lines, size: usize, code: usize, blin
     }
 }
 
-// Whether a character shows its dots, blinking ones being lit or not.
+// Whether a character shows its dots: a blinking one only while it is lit.
 fn shows(blink: bool, lit: bool) -> bool
     ensures { λ r. ⌜ r ≡ steadyOr blink lit ⌝ }
 {
     if blink { lit } else { true }
 }
 
-// The row of a cell that a line so far below its top cuts. There are four sizes only, and to divide by a number that is known is quick.
+// The font row that a line cuts, by its distance from the cell's top. There are four sizes only, and to divide by a number that is known is quick.
 fn cut_row(distance: usize, size: usize) -> usize
     requires { ⌜ (1 ≤ size) × (size ≤ mostSize) ⌝ }
     ensures { λ r. ⌜ r ≡ distance / size ⌝ }

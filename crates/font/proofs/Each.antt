@@ -1,4 +1,4 @@
--- A list's numbers one by one: it is within a bound where each of them is; and they are those of four quarters, and what is left.
+-- A list's numbers one by one: it is within a bound where each of them is; and they are those of four parts, and what is left.
 -- Assumes nothing.
 use Prim.Native.Nat.{ℕ, zero, suc, _+_, _-_, _*_, _<_, _≤_}
 use mathlib.Core.Path.{_≡_, refl, ap}
@@ -24,16 +24,16 @@ unfolding within
 within-each most [] h = refl
 within-each most (a ∷ l) h = rw (le-leb a most (h 0 (omega arith))) (within-each most l (λ k g. h (suc k) (omega arith)))
 
--- the first i numbers of each quarter are within the bound
-pub record Quarters (most : ℕ) (s : List ℕ) (part i : ℕ) : Type 0 where
+-- the first i numbers of each part are within the bound
+pub record Parts (most : ℕ) (s : List ℕ) (part i : ℕ) : Type 0 where
   pub first : (k : ℕ) → k < i → getD s k 0 ≤ most
   pub second : (k : ℕ) → k < i → getD s (part + k) 0 ≤ most
   pub third : (k : ℕ) → k < i → getD s (2 * part + k) 0 ≤ most
   pub fourth : (k : ℕ) → k < i → getD s (3 * part + k) 0 ≤ most
 
 module _ (most : ℕ) (s : List ℕ) (part : ℕ) where
-  pub quarters-none : Quarters most s part 0
-  quarters-none =
+  pub parts-none : Parts most s part 0
+  parts-none =
       record {
         first = λ k h. absurd (omega arith);
         second = λ k h. absurd (omega arith);
@@ -41,9 +41,9 @@ module _ (most : ℕ) (s : List ℕ) (part : ℕ) where
         fourth = λ k h. absurd (omega arith);
       }
 
-  pub quarters-more : (i : ℕ) → Quarters most s part i
-      → getD s i 0 ≤ most → getD s (part + i) 0 ≤ most → getD s (2 * part + i) 0 ≤ most → getD s (3 * part + i) 0 ≤ most → Quarters most s part (i + 1)
-  quarters-more i g a b c d =
+  pub parts-more : (i : ℕ) → Parts most s part i
+      → getD s i 0 ≤ most → getD s (part + i) 0 ≤ most → getD s (2 * part + i) 0 ≤ most → getD s (3 * part + i) 0 ≤ most → Parts most s part (i + 1)
+  parts-more i g a b c d =
       record {
         first = below-more (λ k. getD s k 0 ≤ most) i (g .first) a;
         second = below-more (λ k. getD s (part + k) 0 ≤ most) i (g .second) b;
@@ -51,8 +51,8 @@ module _ (most : ℕ) (s : List ℕ) (part : ℕ) where
         fourth = below-more (λ k. getD s (3 * part + k) 0 ≤ most) i (g .fourth) d;
       }
 
-  pub quarters-all : (i : ℕ) → part ≤ i → Quarters most s part i → (k : ℕ) → k < 4 * part → getD s k 0 ≤ most
-  quarters-all i all g k h = go (decLt k part) (decLt k (2 * part)) (decLt k (3 * part))
+  pub parts-all : (i : ℕ) → part ≤ i → Parts most s part i → (k : ℕ) → k < 4 * part → getD s k 0 ≤ most
+  parts-all i all g k h = go (decLt k part) (decLt k (2 * part)) (decLt k (3 * part))
     where
       go : Dec (k < part) → Dec (k < 2 * part) → Dec (k < 3 * part) → getD s k 0 ≤ most
       go (yes a) b c = g .first k (omega arith)

@@ -46,7 +46,7 @@ pub fn all_within(numbers: &[u16], most: u16) -> bool
 }
 
 // The bits of all numbers together, which are at least each of them: for a bound of so many bits they decide. Four parts are looked at at once, so that
-// no look waits for the one before, each of so many sixteens that they fill a processor's wide registers; then what is left.
+// no look waits for the one before, each a multiple of 16 numbers long, so that they fill wide registers; then what is left.
 fn all_bits(numbers: &[u16]) -> u16
     ensures { λ r. ⌜ ((most : ℕ) → r ≤ most → within most (now (numbers .entry)) ≡ true) ⌝ }
 {

@@ -235,7 +235,7 @@ module _ {text : List ℕ} {at count : ℕ} {scratch bytes : List ℕ} {sum next
 
     module _ {after : List ℕ} {fresh : Bool} (stored : Stored bytes n address scratch after fresh)
         (tested : (sum ≡ 0) × (kind ≡ 1 → ⊥) × (kind ≡ 0) × (address + n ≤ 8192)) where
-      fits : 256 * getD bytes 1 0 + getD bytes 2 0 + getD bytes 0 0 ≤ 8192
+      fits : addressOf bytes + n ≤ 8192
       fits = omega (arith, reads, tested)
 
       pub said-twice : fresh ≡ false → refused 11 at ≡ verdict text

@@ -60,15 +60,15 @@ module _ (text : List ℕ) (place : ℕ) (here : place < length text) where
     next-here = omega (arith, next-is, ap endLength (body-after text place shape))
 
 -- the length that a line begins with
-module _ (text : List ℕ) (place : ℕ) {length : ℕ} (spelled : length ≡ spelledAt text (place + 1)) where
-  pub no-length : 255 < length → Shape text place → ⊥
-  no-length h shape =
+module _ (text : List ℕ) (place : ℕ) {given : ℕ} (spelled : given ≡ spelledAt text (place + 1)) where
+  pub no-size : 255 < given → Shape text place → ⊥
+  no-size h shape =
       let high = digit-here text place shape (place + 1) (omega arith) (omega arith) in
       let low = digit-here text place shape (place + 1 + 1) (omega arith) (omega arith) in
       omega (arith, spelled, high, low, spelled-byte text (place + 1) high low)
 
-  pub length-is : length < 256 → 5 + length ≡ sizeAt text place
-  length-is h =
+  pub size-is : given < 256 → 5 + given ≡ sizeAt text place
+  size-is h =
       let (high, low) = spelled-digits text (place + 1) (omega arith) in
       let second : place + 1 + 1 ≡ place + 2 = omega arith in
       ap (λ n. 5 + n) (spelled ∙ spelled-byte text (place + 1) high low) ∙ ap (λ k. 5 + (16 * digit (getD text (place + 1) 0) + digit (getD text k 0))) second

@@ -130,13 +130,16 @@ module _ (text : List ℕ) (place n : ℕ) (fits : place + 2 * n ≤ length text
   unfolding sumFrom
   sum-good h = rw (front-digits h)
 
+  front-digit : allDigits (take (2 * n) (drop place text)) ≡ true → (k : ℕ) → k < 2 * n → digit (getD text (place + k) 0) < 16
+  front-digit e k h = omega (arith, digits-at _ e k (omega (arith, front-length)), ap digit (front-at k h))
+
   pub sum-digits : sumFrom text place n < 256 → (k : ℕ) → k < 2 * n → digit (getD text (place + k) 0) < 16
   unfolding sumFrom
   sum-digits s k h = go (allDigits (take (2 * n) (drop place text))) refl s
     where
       go : (b : Bool) → allDigits (take (2 * n) (drop place text)) ≡ b → pick b (sumAll (bytesFrom text place n) % 256) 256 < 256
           → digit (getD text (place + k) 0) < 16
-      go true e s = omega (arith, digits-at _ e k (omega (arith, front-length)), ap digit (front-at k h))
+      go true e s = front-digit e k h
       go false e s = absurd (omega arith)
 
   -- two of them that are not both digits
@@ -144,13 +147,10 @@ module _ (text : List ℕ) (place n : ℕ) (fits : place + 2 * n ≤ length text
   unfolding sumFrom
   sum-none i h bad = go (allDigits (take (2 * n) (drop place text))) refl
     where
-      at : allDigits (take (2 * n) (drop place text)) ≡ true → (k : ℕ) → k < 2 * n → digit (getD text (place + k) 0) < 16
-      at e k l = omega (arith, digits-at _ e k (omega (arith, front-length)), ap digit (front-at k l))
-
       go : (b : Bool) → allDigits (take (2 * n) (drop place text)) ≡ b → pick b (sumAll (bytesFrom text place n) % 256) 256 ≡ 256
       go true e =
-          let high = at e (2 * i) (omega arith) in
-          let low : digit (getD text (place + 2 * i + 1) 0) < 16 = rw (add-assoc place (2 * i) 1) (at e (2 * i + 1) (omega arith)) in
+          let high = front-digit e (2 * i) (omega arith) in
+          let low : digit (getD text (place + 2 * i + 1) 0) < 16 = rw (add-assoc place (2 * i) 1) (front-digit e (2 * i + 1) (omega arith)) in
           absurd (omega (arith, spelled-byte text (place + 2 * i) high low))
       go false e = refl
 

@@ -4,7 +4,7 @@
 use Prim.Native.Nat.{ℕ, _+_, _*_, _%_, _<_, _≤_}
 use mathlib.Core.Path.{_≡_}
 use mathlib.Core.Bool.{Bool, true}
-use mathlib.Core.List.{List, [], _∷_, _++_}
+use mathlib.Core.List.{List, [], _∷_}
 use lib.Dec.{eqb, ltb}
 use lib.ListN.{length, getD, take, drop, replicate}
 use Rattle.laws.specs.Pick.{pick, both}
@@ -57,7 +57,8 @@ nextAt text place = place + length (getD (lines (drop place text)) 0 [])
 unfoldable pub lineAt : List ℕ → ℕ → Line
 lineAt text place = pick (isShaped (bodyOf (drop place text))) (Shaped (sumOf (recordAt text place)) (nextAt text place)) Unshaped
 
--- what is said at a record of the end record's type, at a place, where more text may follow after it and so many bytes are given
+-- what is said at a record of the end record's type, with n bytes of data and an address, in the line at a place: by whether more text follows
+-- that line, after where it does, and what the records before it give
 unfoldable pub endedBy : ℕ → ℕ → ℕ → Bool → ℕ → ℕ → Outcome
 endedBy n address place more after count = pick (both (eqb n 0) (eqb address 0)) (pick more (BadEnd after) (Done count)) (BadType place)
 

@@ -125,7 +125,8 @@ fn address_of(bytes: &[u8]) -> usize
     256 * (bytes[1] as usize) + bytes[2] as usize
 }
 
-// The answer at a record of the end record's type: its line is at a place, and whether more follows, after it, is known.
+// The answer at a record of the end record's type, with n bytes of data and an address, in the line at a place. More is whether text follows that line,
+// after where it does, and count what the records before it give.
 fn ended(n: usize, address: usize, place: u32, more: bool, after: u32, count: u32) -> Outcome
     ensures { λ r. ⌜ r ≡ endedBy n address place more after count ⌝ }
 {
@@ -158,11 +159,11 @@ fn parse(digits: &[u8], text: &[u8], at: usize, bytes: &mut [u8]) -> Line
     if text[at] != COLON {
         return Line::Unshaped;
     }
-    let length = byte_at(digits, text, at + 1);
-    if 255 < length {
+    let given = byte_at(digits, text, at + 1);
+    if 255 < given {
         return Line::Unshaped;
     }
-    let n = FRAME + length as usize;
+    let n = FRAME + given as usize;
     let end = at + 1 + 2 * n;
     if text.len() < end {
         return Line::Unshaped;

@@ -39,9 +39,6 @@ module _ (most : ℕ) (s : List ℕ) (i top : ℕ) (h : i < length s) where
   within-cons = rw (add-one, drop-cons s i 0 h)
 
   -- the next number is within the bound
-  pub within-passed : getD s i 0 ≤ most → within most (drop (i + 1) s) ≡ within most (drop i s)
-  within-passed le = rw within-cons (simp (le-leb (getD s i 0) most le))
-
   -- the next number is the largest so far
   pub within-larger : top ≤ getD s i 0 → both (leb (getD s i 0) most) (within most (drop (i + 1) s)) ≡ both (leb top most) (within most (drop i s))
   within-larger le = rw within-cons (both-most top (getD s i 0) most _ le)
@@ -53,10 +50,6 @@ module _ (most : ℕ) (s : List ℕ) (i top : ℕ) (h : i < length s) where
 -- the bits of two numbers together are at least each of them
 pub or-above : (a b most : ℕ) → bitOr a b ≤ most → (a ≤ most) × (b ≤ most)
 or-above a b most le = (omega (arith, or-add-and a b, and-le-r a b), omega (arith, or-add-and a b, and-le-l a b))
-
-pub within-none : (most : ℕ) (s : List ℕ) → within most (drop (length s) s) ≡ true
-unfolding within
-within-none most s = rw (drop-length s)
 
 -- nothing is left to scan
 pub within-all : (most : ℕ) (s : List ℕ) (top : ℕ) → both (leb top most) (within most (drop (length s) s)) ≡ leb top most

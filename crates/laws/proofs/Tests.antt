@@ -25,8 +25,8 @@ upto-at (suc n) f e k h = let parts = both-parts (f n) (upto n f) e in go (λ l.
     go rest last (no d) = rest (omega arith)
 
 -- what `!f(..)` tells of the test that f answers by
-pub holds : (r t : Bool) → r ≡ t → not r ≡ false → t ≡ true
-holds r t answers left = sym answers ∙ not-false _ left
+pub test-holds : (r t : Bool) → r ≡ t → not r ≡ false → t ≡ true
+test-holds r t answers left = sym answers ∙ not-false _ left
 
-pub fails : (r t : Bool) → r ≡ t → not r ≡ true → t ≡ false
-fails r t answers taken = sym answers ∙ not-true _ taken
+pub test-fails : (r t : Bool) → r ≡ t → not r ≡ true → t ≡ false
+test-fails r t answers taken = sym answers ∙ not-true _ taken

@@ -73,8 +73,8 @@ fn lay_within(levels: &mut [u8], pair: Pair, from: usize)
     stretch(levels, clock, high as usize);
 }
 
-// The levels of a whole sub-period, clock by clock. The first clock is 0; it comes from the caller so that clocks are counted and compared as bytes,
-// many at a time.
+// The levels of a whole sub-period, clock by clock. The first clock is 0; it comes from the caller so that clocks are counted as bytes, and the
+// compiler compares many at a time.
 fn whole(levels: &mut [u8], clock: u8, high: u8)
     requires { ⌜ (length (now levels) ≡ subPeriod) × (clock ≡ 0) ⌝ }
     ensures { λ _. ⌜ now (levels .exit) ≡ pulse 0 high subPeriod ⌝ }
@@ -100,11 +100,11 @@ fn stretch(levels: &mut [u8], clock: usize, high: usize)
     }
 }
 
-// High up to the turn.
-fn level_below(clock: usize, turn: usize) -> u8
-    ensures { λ r. ⌜ r ≡ levelBelow clock turn ⌝ }
+// The level at a place: high before the turn, low from it on.
+fn level_below(place: usize, turn: usize) -> u8
+    ensures { λ r. ⌜ r ≡ levelBelow place turn ⌝ }
 {
-    if clock < turn { 1 } else { 0 }
+    if place < turn { 1 } else { 0 }
 }
 
 // How many clocks of sub-period n are high.

@@ -14,7 +14,7 @@ shown-bits-requires : tie.Need-shown-bits-requires
 shown-bits-requires c κs =
     let told = (let k : tie.After-kind = search in k .kind .given .1) in
     let pre = (let s : tie.Start = search in s .pre) in
-    record { rows = pre .rows; code = character-sound _ _ _ _ told (pre .sound) .1; some = pre .some; most = pre .size; cut = pre .cut }
+    record { rows = pre .rows; code = character-sound _ _ _ _ told (pre .sound) .1; some = pre .some; size = pre .size; cut = pre .cut }
 
 unlit-requires : tie.Need-unlit-requires
 unlit-requires c κs = search needs

@@ -6,12 +6,12 @@ use borrow.Author.Count.{below-more}
 use lib.Bits.{bitOr, or-add-and, and-le-l, and-le-r}
 use lib.ListN.{length, getD}
 use Rattle.laws.proofs.Scan.{or-above}
-use Rattle.font.proofs.Each.{within-each, Quarters, quarters-none, quarters-more, quarters-all}
+use Rattle.font.proofs.Each.{within-each, Parts, parts-none, parts-more, parts-all}
 use Rattle.font.proofs.all_bits.Statement.{statement}
 use Rattle.font.proofs.all_bits.Tie as tie
 
 abbrev Inv-loop : tie.InvT-loop
-Inv-loop numbers part all₀ i₀ all i = (i ≤ part) × ((most : ℕ) → all ≤ most → Quarters most numbers part i)
+Inv-loop numbers part all₀ i₀ all i = (i ≤ part) × ((most : ℕ) → all ≤ most → Parts most numbers part i)
 
 abbrev μ-loop : tie.MeasureT-loop
 μ-loop numbers part all₀ i₀ all i = part - i
@@ -26,7 +26,7 @@ mul-part : tie.Need-mul-part Inv-loop μ-loop Inv-loop2 μ-loop2
 mul-part c = omega arith
 
 loop-holds : tie.Need-loop-holds Inv-loop μ-loop Inv-loop2 μ-loop2
-loop-holds c = (omega arith, λ most le. quarters-none most _ _)
+loop-holds c = (omega arith, λ most le. parts-none most _ _)
 
 mul-front : tie.Need-mul-front Inv-loop μ-loop Inv-loop2 μ-loop2
 mul-front c = omega arith
@@ -90,7 +90,7 @@ loop-again c =
           let halves = or-above (bitOr a b) (bitOr d e) most these in
           let front = or-above a b most (halves .0) in
           let back = or-above d e most (halves .1) in
-          quarters-more most s part (l .i) (l .inv .1 most so-far) (front .0) (front .1) (back .0) (back .1),
+          parts-more most s part (l .i) (l .inv .1 most so-far) (front .0) (front .1) (back .0) (back .1),
     )
 
 mul-i : tie.Need-mul-i Inv-loop μ-loop Inv-loop2 μ-loop2
@@ -100,7 +100,7 @@ loop2-holds : tie.Need-loop2-holds Inv-loop μ-loop Inv-loop2 μ-loop2
 loop2-holds c =
     let s = (let p : tie.Start Inv-loop μ-loop Inv-loop2 μ-loop2 = search in p .args .numbers .now) in
     let l = (let p : tie.At-loop Inv-loop μ-loop Inv-loop2 μ-loop2 = search in p .loop) in
-    (omega arith, λ most le k h. quarters-all most s (16 * (length s / 64)) (l .i) (omega arith) (l .inv .1 most le) k (omega arith))
+    (omega arith, λ most le k h. parts-all most s (16 * (length s / 64)) (l .i) (omega arith) (l .inv .1 most le) k (omega arith))
 
 mul-all : tie.Need-mul-all Inv-loop μ-loop Inv-loop2 μ-loop2
 mul-all c = omega arith

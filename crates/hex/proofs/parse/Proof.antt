@@ -1,6 +1,6 @@
 -- `hex::parse` meets its contract: each test that fails denies the record's shape, and all of them passed give it.
 -- Assumes nothing.
-use Rattle.hex.proofs.Place.{not-shaped, no-length, length-is, no-sum, no-end, is-shaped}
+use Rattle.hex.proofs.Place.{not-shaped, no-size, size-is, no-sum, no-end, is-shaped}
 use native.Mathlib.Omega.{arith}
 use borrow.Author.Needs.{needs}
 use Rattle.hex.proofs.parse.Statement.{statement}
@@ -32,7 +32,7 @@ returns-3 : tie.Need-returns-3
 returns-3 c =
     let a = (let s : tie.Start = search in s .args) in
     let spelled = (let p : tie.After-byte-at = search in p .byte-at .ensures) in
-    not-shaped (a .text .now) (a .at) _ (no-length (a .text .now) (a .at) spelled (omega arith))
+    not-shaped (a .text .now) (a .at) _ (no-size (a .text .now) (a .at) spelled (omega arith))
 
 cast-n : tie.Need-cast-n
 cast-n c = omega arith
@@ -53,7 +53,7 @@ returns-4 : tie.Need-returns-4
 returns-4 c =
     let a = (let s : tie.Start = search in s .args) in
     let spelled = (let p : tie.After-byte-at = search in p .byte-at .ensures) in
-    not-shaped (a .text .now) (a .at) _ (λ shape. omega (arith, length-is (a .text .now) (a .at) spelled (omega arith), shape .reaches))
+    not-shaped (a .text .now) (a .at) _ (λ shape. omega (arith, size-is (a .text .now) (a .at) spelled (omega arith), shape .reaches))
 
 add-decode : tie.Need-add-decode
 add-decode c = omega arith
@@ -69,7 +69,7 @@ returns-5 c =
     let a = (let s : tie.Start = search in s .args) in
     let spelled = (let p : tie.After-byte-at = search in p .byte-at .ensures) in
     let decoded = (let d : tie.After-decode = search in d .decode .ensures) in
-    not-shaped (a .text .now) (a .at) _ (no-sum decoded (omega (arith, length-is (a .text .now) (a .at) spelled (omega arith))))
+    not-shaped (a .text .now) (a .at) _ (no-sum decoded (omega (arith, size-is (a .text .now) (a .at) spelled (omega arith))))
 
 past-end-requires : tie.Need-past-end-requires
 past-end-requires c κs = search needs
@@ -83,7 +83,7 @@ returns-6 c =
     let spelled = (let p : tie.After-byte-at = search in p .byte-at .ensures) in
     let decoded = (let d : tie.After-decode = search in d .decode .ensures) in
     let ended = (let e : tie.After-past-end = search in e .past-end .ensures) in
-    not-shaped (a .text .now) (a .at) _ (no-end decoded ended (omega (arith, length-is (a .text .now) (a .at) spelled (omega arith))))
+    not-shaped (a .text .now) (a .at) _ (no-end decoded ended (omega (arith, size-is (a .text .now) (a .at) spelled (omega arith))))
 
 cast-sum : tie.Need-cast-sum
 cast-sum c = omega arith
@@ -97,7 +97,7 @@ returns-7 c =
     let spelled = (let p : tie.After-byte-at = search in p .byte-at .ensures) in
     let decoded = (let d : tie.After-decode = search in d .decode .ensures) in
     let ended = (let e : tie.After-past-end = search in e .past-end .ensures) in
-    is-shaped decoded ended (omega (arith, length-is (a .text .now) (a .at) spelled (omega arith)))
+    is-shaped decoded ended (omega (arith, size-is (a .text .now) (a .at) spelled (omega arith)))
 
 pub parse-spec : {M : Type 1} → statement M
 parse-spec =

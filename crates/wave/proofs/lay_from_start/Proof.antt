@@ -1,6 +1,6 @@
 -- `wave::lay_from_start` meets its contract: as many levels as there are bytes, and no more than a period has.
 -- Assumes nothing.
-use Prim.Native.Nat.{_+_, _-_, _≤_, min}
+use Prim.Native.Nat.{_-_, min}
 use mathlib.Core.Path.{_≡_, refl, sym}
 use native.Mathlib.Omega.{arith}
 use borrow.Author.Needs.{needs}

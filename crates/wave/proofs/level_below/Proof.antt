@@ -11,13 +11,13 @@ use Rattle.wave.proofs.level_below.Tie as tie
 returns : tie.Need-returns
 returns c =
     let a = (let s : tie.Start = search in s .args) in
-    let is-high : ltb (a .clock) (a .turn) ≡ true = omega (arith, lt-ltb) in
+    let is-high : ltb (a .place) (a .turn) ≡ true = omega (arith, lt-ltb) in
     simp is-high (omega arith)
 
 returns-2 : tie.Need-returns-2
 returns-2 c =
     let a = (let s : tie.Start = search in s .args) in
-    let is-low : ltb (a .clock) (a .turn) ≡ false = omega (arith, le-ltb) in
+    let is-low : ltb (a .place) (a .turn) ≡ false = omega (arith, le-ltb) in
     simp is-low (omega arith)
 
 pub level-below-spec : {M : Type 1} → statement M

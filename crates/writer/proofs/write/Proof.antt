@@ -9,7 +9,7 @@ use lib.Dec.{ltb}
 use lib.ListN.{length}
 use Rattle.laws.specs.Said.{refused}
 use Rattle.laws.proofs.Said.{said-by}
-use Rattle.laws.proofs.Tests.{holds, fails}
+use Rattle.laws.proofs.Tests.{test-holds, test-fails}
 use Rattle.font.specs.Font.{isFont}
 use Rattle.image.specs.Image.{imageOf}
 use Rattle.writer.specs.Text.{textBytes}
@@ -25,7 +25,7 @@ returns : tie.Need-returns
 unfolding answerOf leftOf
 returns c =
     let a = (let s : tie.Start = search in s .args) in
-    let font : isFont (a .font .now) ≡ false = search fails in
+    let font : isFont (a .font .now) ≡ false = search test-fails in
     let told : refused 4 0 ≡ answerOf (a .font .now) (length (a .text .now)) = simp font in
     (said-by told (omega arith) (omega arith) (omega arith), simp font)
 
@@ -33,12 +33,12 @@ returns-2 : tie.Need-returns-2
 unfolding answerOf leftOf
 returns-2 c =
     let a = (let s : tie.Start = search in s .args) in
-    let font : isFont (a .font .now) ≡ true = search holds in
+    let font : isFont (a .font .now) ≡ true = search test-holds in
     let room : ltb (length (a .text .now)) textBytes ≡ true = omega (arith, lt-ltb) in
     (simp (font, room), simp (font, room))
 
 put-text-requires : tie.Need-put-text-requires
-put-text-requires c κs = record { font-is = search holds; room = omega arith }
+put-text-requires c κs = record { font-is = search test-holds; room = omega arith }
 
 same-length : tie.Need-same-length
 same-length c = omega arith
@@ -47,7 +47,7 @@ returns-3 : tie.Need-returns-3
 unfolding answerOf leftOf
 returns-3 c =
     let a = (let s : tie.Start = search in s .args) in
-    let font : isFont (a .font .now) ≡ true = search holds in
+    let font : isFont (a .font .now) ≡ true = search test-holds in
     let room : ltb (length (a .text .now)) textBytes ≡ false = omega (arith, le-ltb) in
     let put = (let t : tie.After-put-text = search in t .put-text .ensures) in
     (simp (font, room), put ∙ text-stored (imageOf (a .font .now)) (a .text .now) (omega arith) ∙ simp (font, room))
