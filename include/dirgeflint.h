@@ -25,8 +25,8 @@
 
 /* The minor number goes up when something is added, the major one when a host has to be compiled again. CHANGELOG.md tells what changed. */
 #define DIRGEFLINT_VERSION_MAJOR 1
-#define DIRGEFLINT_VERSION_MINOR 0
-#define DIRGEFLINT_VERSION "1.0"
+#define DIRGEFLINT_VERSION_MINOR 1
+#define DIRGEFLINT_VERSION "1.1"
 
 #ifdef __cplusplus
 extern "C" {
@@ -41,6 +41,7 @@ enum {
     DIRGEFLINT_CELL_DOTS = 12,      /* dots of a row, the leftmost in bit 11 */
     DIRGEFLINT_FONT_ROWS = 1116,    /* rows of a font: row l of cell c is at 18c + l */
     DIRGEFLINT_MOST_ROW = 4095,     /* a row has 12 bits */
+    DIRGEFLINT_MOST_GLYPHS = 256,   /* drawn glyphs that one call packs */
     DIRGEFLINT_MOST_LINE = 1023,    /* the last scan line that is painted */
     DIRGEFLINT_MOST_WIDTH = 1024,   /* dots of the widest line */
     DIRGEFLINT_IMAGE_BYTES = 8192,  /* bytes of a character image */
@@ -60,7 +61,7 @@ enum {
     DIRGEFLINT_BAD_WORDS = 3,        /* paint: not 64 words, or a word above 1023 */
     DIRGEFLINT_BAD_FONT = 4,         /* paint, write: not 1,116 rows, or a row above 4095 */
     DIRGEFLINT_BAD_LINE = 5,         /* paint: line above 1023, or width above 1024 */
-    DIRGEFLINT_NO_ROOM = 6,          /* paint, write, read: the output is too short */
+    DIRGEFLINT_NO_ROOM = 6,          /* paint, write, read, pack: the output is too short */
     DIRGEFLINT_BAD_SHAPE = 7,        /* read: text above 65,535 bytes, or a line that is no record */
     DIRGEFLINT_BAD_SUM = 8,          /* read: a record's bytes do not sum to 0 */
     DIRGEFLINT_BAD_TYPE = 9,         /* read: a record type other than 00 and 01, or a bad end record */
@@ -69,7 +70,9 @@ enum {
     DIRGEFLINT_BAD_END = 12,         /* read: no end record, or bytes after its line */
     DIRGEFLINT_NO_FONT = 13,         /* image to font: wrong lengths, or the image is no font's */
     DIRGEFLINT_TOO_MANY_CLOCKS = 14, /* play: above 16,384 clocks, or above the room lent */
-    DIRGEFLINT_BAD_CLOCK = 15        /* pulse level: channel above 7, or clock outside its period */
+    DIRGEFLINT_BAD_CLOCK = 15,       /* pulse level: channel above 7, or clock outside its period */
+    DIRGEFLINT_BAD_GLYPHS = 16,      /* pack: rows that are no whole glyphs, above 256 glyphs, or a row above 4095 */
+    DIRGEFLINT_TOO_MANY_PATTERNS = 17 /* pack: more different glyphs than the 62 cells of a font */
 };
 
 /* The reason for a number, in words, for a message; never null. */
@@ -92,6 +95,8 @@ static inline const char *dirgeflint_reason(uint32_t number)
     case DIRGEFLINT_NO_FONT: return "the image is no font's: a bit is clear where a font's image has it set, or a length is wrong";
     case DIRGEFLINT_TOO_MANY_CLOCKS: return "more clocks than 16,384, or than the room holds";
     case DIRGEFLINT_BAD_CLOCK: return "the channel is above 7, or the clock is outside the channel's period";
+    case DIRGEFLINT_BAD_GLYPHS: return "there must be 18 rows for each glyph, at most 256 glyphs, and no row above 4095";
+    case DIRGEFLINT_TOO_MANY_PATTERNS: return "more than 62 of the glyphs differ, and a font has 62 cells";
     default: return "no such number";
     }
 }
@@ -366,6 +371,28 @@ dirgeflint_answer dirgeflint_hex_write(const uint16_t *font, size_t font_length,
  *             (place: the lowest such address, which is never below 18)
  */
 dirgeflint_answer dirgeflint_image_to_font(const uint8_t *image, size_t image_length, uint16_t *font, size_t font_length);
+
+/*
+ * ---- Packing drawn glyphs into a font ----
+ *
+ * Makes a font of drawn glyphs, of which there may be more than the font has cells as long as enough of them are alike: glyphs that agree
+ * in all 216 dots share a cell, and glyphs that differ in a dot never do. The first 1,116 rows of font become the font, and the first bytes
+ * of cells the cell of each glyph, 0 to 61. What both hold past that stays.
+ *
+ * Cells are numbered in the order in which their glyphs first appear, from 0, and those that are left over are empty (18 rows of 0). An
+ * empty glyph takes a cell like any other. No font shows the same glyphs with fewer cells. A screen whose characters are the cells of
+ * glyphs, painted with this font, shows the glyphs as they were drawn.
+ *
+ * glyphs         the rows of the glyphs, 18 each: row l of glyph g is glyphs[18 * g + l], at most 4095, its leftmost dot in bit 11
+ * glyphs_length  how many rows there are, which is 18 times the number of glyphs; 0 is taken
+ *
+ * value   how many cells the glyphs take: 0 without glyphs, at most 62.
+ * Refuses 16: glyphs_length not a multiple of 18, more than 256 glyphs, or a row above 4095
+ *         17: more than 62 different glyphs
+ *          6: font_length below 1,116, or cells_length below the number of glyphs
+ */
+dirgeflint_answer dirgeflint_pack(const uint16_t *glyphs, size_t glyphs_length, uint16_t *font, size_t font_length, uint8_t *cells,
+                                  size_t cells_length);
 
 #ifdef __cplusplus
 }
