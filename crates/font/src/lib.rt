@@ -14,7 +14,7 @@ pub const FONT_CELLS: usize = 62;
 
 pub const FONT_ROWS: usize = FONT_CELLS * CELL_ROWS;
 
-const MOST_ROW: u16 = 4095;
+pub const MOST_ROW: u16 = 4095;
 
 // Whether these rows are a font.
 pub fn is_font(rows: &[u16]) -> bool

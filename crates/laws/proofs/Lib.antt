@@ -1,4 +1,5 @@
 pub mod Both
+pub mod Counts
 pub mod Determined
 pub mod Holders
 pub mod Lists

@@ -8,13 +8,8 @@ use native.Mathlib.Nat.{not-suc-le-zero}
 use native.Mathlib.Omega.{arith}
 use native.Mathlib.Decide.{ℕ-discrete}
 use borrow.Author.Tests.{not-true, not-false}
-use Rattle.laws.specs.Pick.{both}
+use Rattle.laws.specs.Lists.{upto}
 use Rattle.laws.proofs.Both.{both-parts}
-
--- the test passes at each number below n
-abbrev pub upto : ℕ → (ℕ → Bool) → Bool
-upto zero f = true
-upto (suc n) f = both (f n) (upto n f)
 
 pub upto-at : (n : ℕ) (f : ℕ → Bool) → upto n f ≡ true → (k : ℕ) → k < n → f k ≡ true
 upto-at zero f e k h = absurd (not-suc-le-zero h)

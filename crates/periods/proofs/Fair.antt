@@ -9,7 +9,8 @@ use lib.Count.{trailingZeros}
 use borrow.Author.Tests.{eqb-true, ltb-true}
 use Rattle.laws.specs.Pick.{pick, both}
 use Rattle.laws.proofs.Both.{both-parts}
-use Rattle.laws.proofs.Tests.{upto, upto-at}
+use Rattle.laws.specs.Lists.{upto}
+use Rattle.laws.proofs.Tests.{upto-at}
 use Rattle.wave.specs.Wave.{subPeriods, added, bit}
 use Rattle.dac.specs.Running.{halves}
 

@@ -1,0 +1,43 @@
+-- `packer::are_glyphs` meets its contract: each return by the test that led to it.
+-- Assumes nothing.
+use native.Mathlib.Omega.{arith}
+use borrow.Author.Needs.{needs}
+use Prim.Native.Nat.{_/_, _%_}
+use borrow.Author.Tests.{eq-eqb, ne-eqb, le-leb, lt-leb}
+use lib.Dec.{eqb, leb}
+use lib.ListN.{length}
+use mathlib.Core.Path.{_≡_}
+use mathlib.Core.Bool.{true, false}
+use Rattle.packer.specs.Packing.{areGlyphs}
+use Rattle.packer.proofs.are_glyphs.Statement.{statement}
+use Rattle.packer.proofs.are_glyphs.Tie as tie
+
+returns : tie.Need-returns
+unfolding areGlyphs
+returns c =
+    let glyphs = (let p : tie.Start = search in p .args .glyphs .now) in
+    let part : eqb (length glyphs % 18) 0 ≡ false = omega (arith, ne-eqb) in
+    simp part
+
+returns-2 : tie.Need-returns-2
+unfolding areGlyphs
+returns-2 c =
+    let glyphs = (let p : tie.Start = search in p .args .glyphs .now) in
+    let whole : eqb (length glyphs % 18) 0 ≡ true = omega (arith, eq-eqb) in
+    let many : leb (length glyphs / 18) 256 ≡ false = omega (arith, lt-leb) in
+    simp (whole, many)
+
+all-within-requires : tie.Need-all-within-requires
+all-within-requires c κs = search needs
+
+returns-3 : tie.Need-returns-3
+unfolding areGlyphs
+returns-3 c =
+    let glyphs = (let p : tie.Start = search in p .args .glyphs .now) in
+    let answer = (let p : tie.After-all-within = search in p .all-within .ensures) in
+    let whole : eqb (length glyphs % 18) 0 ≡ true = omega (arith, eq-eqb) in
+    let few : leb (length glyphs / 18) 256 ≡ true = omega (arith, le-leb) in
+    simp (whole, few) answer
+
+pub are-glyphs-spec : {M : Type 1} → statement M
+are-glyphs-spec = tie.close (tie.spec returns returns-2 all-within-requires returns-3)

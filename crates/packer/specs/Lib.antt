@@ -1,0 +1,3 @@
+pub mod Glyphs
+pub mod Packing
+pub mod Steps
