@@ -2,7 +2,7 @@
 -- in the code, turned about, tells of the account's.
 -- Assumes nothing.
 use Prim.Native.Nat.{ℕ, zero, suc, _<_}
-use mathlib.Core.Path.{_≡_, sym, ap, _∙_}
+use mathlib.Core.Path.{_≡_, refl, sym, ap, _∙_}
 use mathlib.Core.Bool.{Bool, true, false, not}
 use native.Mathlib.Nat.{not-suc-le-zero}
 use native.Mathlib.Omega.{arith}
@@ -18,6 +18,10 @@ upto-at (suc n) f e k h = let parts = both-parts (f n) (upto n f) e in go (λ l.
     go : (k < n → f k ≡ true) → f n ≡ true → Dec (k ≡ n) → f k ≡ true
     go rest last (yes d) = ap f d ∙ last
     go rest last (no d) = rest (omega arith)
+
+pub upto-all : (n : ℕ) (f : ℕ → Bool) → ((k : ℕ) → k < n → f k ≡ true) → upto n f ≡ true
+upto-all zero f h = refl
+upto-all (suc n) f h = rw (h n (omega arith)) (upto-all n f (λ k l. h k (omega arith)))
 
 -- what `!f(..)` tells of the test that f answers by
 pub test-holds : (r t : Bool) → r ≡ t → not r ≡ false → t ≡ true

@@ -2,7 +2,8 @@
 -- Glyphs are lent as rows, 18 each, and lie as the cells of a font do: `rowOf glyphs g l` is row l of glyph g, `fontDot glyphs g l j` its dot in
 -- column j. Glyphs that agree in every dot are one pattern, and a pattern has one cell.
 -- Assumes nothing.
-use Prim.Native.Nat.{ℕ, _/_, _%_}
+use Prim.Native.Nat.{ℕ, _/_, _%_, _<_}
+use mathlib.Core.Path.{_≡_}
 use mathlib.Core.List.{List}
 use mathlib.Core.Bool.{Bool, Bool·beq as agree}
 use lib.Dec.{eqb, ltb}
@@ -22,6 +23,10 @@ glyphsIn glyphs = length glyphs / cellRows
 -- two glyphs are of one pattern: each of their 216 dots agrees
 unfoldable pub samePattern : List ℕ → ℕ → ℕ → Bool
 samePattern glyphs g h = upto cellRows (λ l. upto cellColumns (λ j. agree (fontDot glyphs g l j) (fontDot glyphs h l j)))
+
+-- the same as a statement, dot by dot
+abbrev pub SameDots : List ℕ → ℕ → ℕ → Type 0
+SameDots glyphs g h = (l j : ℕ) → l < cellRows → j < cellColumns → fontDot glyphs g l j ≡ fontDot glyphs h l j
 
 -- the first glyph of g's pattern: one before g, or else g itself
 unfoldable pub firstLike : List ℕ → ℕ → ℕ
