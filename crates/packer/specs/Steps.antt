@@ -82,3 +82,10 @@ pub record Copied (glyphs : List ℕ) (from at : ℕ) (before after : List ℕ) 
   pub here : (l : ℕ) → l < cellRows → getD after (at + l) 0 ≡ getD glyphs (from + l) 0
   pub left : (k : ℕ) → k < at → getD after k 0 ≡ getD before k 0
   pub right : (k : ℕ) → at + cellRows ≤ k → getD after k 0 ≡ getD before k 0
+
+-- the font's rows from one on made 0
+pub record Cleared (from : ℕ) (before after : List ℕ) : Type 0 where
+  pub size : length after ≡ length before
+  pub left : (k : ℕ) → k < from → getD after k 0 ≡ getD before k 0
+  pub here : (k : ℕ) → from ≤ k → k < fontRows → getD after k 0 ≡ 0
+  pub right : (k : ℕ) → fontRows ≤ k → getD after k 0 ≡ getD before k 0

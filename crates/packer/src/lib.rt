@@ -4,10 +4,10 @@ ghost use mathlib.Core.List.{_++_};
 ghost use Prim.Native.Nat.{_+_, _<_, _≤_};
 ghost use lib.ListN.{length, getD, drop};
 ghost use Rattle.laws.specs.Lists.{tabulate};
-ghost use Rattle.font.specs.Font.{cellRows};
+ghost use Rattle.font.specs.Font.{cellRows, fontRows};
 ghost use Rattle.packer.specs.Glyphs.{samePattern, cellFor, packedFont};
 ghost use Rattle.packer.specs.Packing.{areGlyphs, answerOf, said, fontLeft, cellsLeft};
-ghost use Rattle.packer.specs.Steps.{fourAt, spots, spotOf, OneOf, Met, ToNumber, Numbered, ToLay, Copied};
+ghost use Rattle.packer.specs.Steps.{fourAt, spots, spotOf, OneOf, Met, ToNumber, Numbered, ToLay, Copied, Cleared};
 
 // The most glyphs that are packed.
 pub const MOST_GLYPHS: usize = 256;
@@ -170,11 +170,7 @@ fn lay_font(glyphs: &[u16], firsts: &[u8], used: usize, font: &mut [u16])
         copy_cell(glyphs, font::CELL_ROWS * first, font, font::CELL_ROWS * cell);
         cell += 1;
     }
-    let mut i = font::CELL_ROWS * used;
-    while i < font::FONT_ROWS {
-        font[i] = 0;
-        i += 1;
-    }
+    clear(font, font::CELL_ROWS * used);
 }
 
 // The rows of a cell.
@@ -186,6 +182,18 @@ fn copy_cell(glyphs: &[u16], from: usize, font: &mut [u16], at: usize)
     while l < font::CELL_ROWS {
         font[at + l] = glyphs[from + l];
         l += 1;
+    }
+}
+
+// The rows of the cells that are left over.
+fn clear(font: &mut [u16], from: usize)
+    requires { ⌜ (from ≤ fontRows) × (fontRows ≤ length (now font)) ⌝ }
+    ensures { λ _. ⌜ Cleared from (now (font .entry)) (now (font .exit)) ⌝ }
+{
+    let mut i = from;
+    while i < font::FONT_ROWS {
+        font[i] = 0;
+        i += 1;
     }
 }
 
