@@ -14,7 +14,7 @@ use Rattle.laws.specs.Within.{within}
 use Rattle.font.specs.Font.{cellRows, mostRow, rowOf}
 use Rattle.font.proofs.Each.{within-at}
 use Rattle.packer.specs.Glyphs.{samePattern}
-use Rattle.packer.specs.Steps.{fourAt, spotOf}
+use Rattle.packer.specs.Steps.{fourAt, spots, spotOf}
 use Rattle.packer.proofs.Dots.{same-rows, rows-same}
 
 -- two glyphs' rows agree, as far as they are compared
@@ -37,6 +37,10 @@ module _ (glyphs : List ℕ) where
 
   four-first : (g h : ℕ) → Rows glyphs g h cellRows → fourAt glyphs (18 * g) ≡ fourAt glyphs (18 * h)
   four-first g h e = ap (fourAt glyphs) (sym (add-zero (18 * g))) ∙ four-same g h 0 (omega arith) e ∙ ap (fourAt glyphs) (add-zero (18 * h))
+
+  pub spot-below : (g : ℕ) → spotOf glyphs g < spots
+  unfolding spotOf
+  spot-below g = omega arith
 
   module _ (small : within mostRow glyphs ≡ true) where
     -- glyphs of one pattern have one spot
