@@ -18,6 +18,7 @@ use Rattle.dirgeflint.proofs.hex_face.dirgeflint_hex_read as hex-read
 use Rattle.dirgeflint.proofs.hex_face.dirgeflint_image_to_font as image-to-font
 use Rattle.dirgeflint.proofs.pulse_face.dirgeflint_pulse_level as pulse-level
 use Rattle.dirgeflint.proofs.writer_face.dirgeflint_hex_write as hex-write
+use Rattle.dirgeflint.proofs.packer_face.dirgeflint_pack as pack
 
 pub dirgeflint-pulse-level-unique : Determines pulse-level.ended (λ w. pulse-level.clauses (w .𝓤) (w .H) (w .𝓖 .A) (w .𝓜 .mem) (w .𝓡 .run))
 dirgeflint-pulse-level-unique w κs a g g′ r r′ ws ws′ = both-say w (λ p q. (one-answer r r′ (p ∙ sym q), refl))
@@ -66,3 +67,8 @@ dirgeflint-hex-read-unique w κs a g g′ r r′ ws ws′ =
 pub dirgeflint-image-to-font-unique : Determines image-to-font.ended (λ w. image-to-font.clauses (w .𝓤) (w .H) (w .𝓖 .A) (w .𝓜 .mem) (w .𝓡 .run))
 dirgeflint-image-to-font-unique w κs a g g′ r r′ ws ws′ =
     both-say w (λ p q. (one-answer r r′ (p .0 ∙ sym (q .0)), λ i. (tt, ((p .1 ∙ sym (q .1)) i, tt))))
+
+-- the font, and the places for cells, that the host lent
+pub dirgeflint-pack-unique : Determines pack.ended (λ w. pack.clauses (w .𝓤) (w .H) (w .𝓖 .A) (w .𝓜 .mem) (w .𝓡 .run))
+dirgeflint-pack-unique w κs a g g′ r r′ ws ws′ =
+    both-say w (λ p q. (one-answer r r′ (p .0 ∙ sym (q .0)), λ i. (tt, ((p .1 ∙ sym (q .1)) i, ((p .2 ∙ sym (q .2)) i, tt)))))

@@ -3,6 +3,7 @@
 mod dac_face;
 mod display_face;
 mod hex_face;
+mod packer_face;
 mod port_face;
 mod pulse_face;
 mod writer_face;

@@ -131,6 +131,6 @@ count-apart f (suc b) test n small apart =
     let passes : (k : ℕ) → without f b test k ≡ true → test k ≡ true = λ k e. both-parts (test k) (not (eqb (f k) b)) e .0 in
     let other : (k : ℕ) → without f b test k ≡ true → f k ≡ b → ⊥ = λ k e. other-value (f k) b (eqb (f k) b) refl (both-parts (test k) (not (eqb (f k) b)) e .1) in
     let fewer = count-apart f b (without f b test) n
-            (λ k l e. let lt = small k l (passes k e) in omega (arith, lt, other k e))
-            (λ k m l h e e′. apart k m l h (passes k e) (passes m e′)) in
+    (λ k l e. let lt = small k l (passes k e) in omega (arith, lt, other k e))
+    (λ k m l h e e′. apart k m l h (passes k e) (passes m e′)) in
     omega (arith, fewer, without-one f b test n apart)

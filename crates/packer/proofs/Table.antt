@@ -44,7 +44,6 @@ table-none glyphs firsts numbers =
 
 module _ (glyphs : List ℕ) (g used : ℕ) (firsts₀ firsts numbers₀ numbers nexts₀ nexts heads : List ℕ)
     (pre : ToNumber glyphs firsts₀ numbers₀) (t : Table glyphs g used firsts₀ firsts numbers₀ numbers nexts₀ nexts heads) (l : g < glyphsIn glyphs) where
-
   pub table-one : OneOf glyphs g
   table-one = record { glyphs-are = pre .glyphs-are; below = l }
 
@@ -72,11 +71,25 @@ module _ (glyphs : List ℕ) (g used : ℕ) (firsts₀ firsts numbers₀ numbers
 
   module _ (cell : ℕ) (is : cell ≡ cellFor glyphs g) where
     -- too many patterns
-    pub table-over : cell ≡ used → used ≡ 62 → fontCells < patternsIn glyphs
-    table-over e full =
-        let first = first-cell glyphs g (sym is ∙ e ∙ t .all) in
-        let more : patternsBefore glyphs (g + 1) ≡ 1 + patternsBefore glyphs g = before-more glyphs g ∙ rw first in
-        omega (arith, more, t .all, before-grows glyphs (g + 1) (glyphsIn glyphs) (omega arith))
+    pub table-over : (n : ℕ) → n ≡ 63 → cell ≡ used → used ≡ 62 → Numbered glyphs n firsts numbers
+    table-over n over e full =
+        record {
+          over = λ h. many;
+          all = λ h. absurd (omega arith);
+          first = λ h. absurd (omega arith);
+          cell = λ h. absurd (omega arith);
+          roomy = t .first .size ∙ pre .roomy;
+          places = t .cell .size ∙ pre .places;
+        }
+      where
+        first : isFirst glyphs g ≡ true
+        first = first-cell glyphs g (sym is ∙ e ∙ t .all)
+
+        more : patternsBefore glyphs (g + 1) ≡ 1 + patternsBefore glyphs g
+        more = before-more glyphs g ∙ rw first
+
+        many : fontCells < patternsIn glyphs
+        many = omega (arith, more, t .all, before-grows glyphs (g + 1) (glyphsIn glyphs) (omega arith))
 
     cell-more : Filled (cellFor glyphs) (g + 1) (set numbers g cell) numbers₀
     cell-more =
@@ -132,17 +145,14 @@ module _ (glyphs : List ℕ) (g used : ℕ) (firsts₀ firsts numbers₀ numbers
         at-spot = ap (spotOf glyphs) here ∙ sym e
 
 -- all glyphs are numbered
-pub table-all : (glyphs : List ℕ) (g used : ℕ) (firsts₀ firsts numbers₀ numbers nexts₀ nexts heads : List ℕ) → g ≡ glyphsIn glyphs
+pub table-all : (glyphs : List ℕ) (g used : ℕ) (firsts₀ firsts numbers₀ numbers nexts₀ nexts heads : List ℕ) → ToNumber glyphs firsts₀ numbers₀ → g ≡ glyphsIn glyphs
     → Table glyphs g used firsts₀ firsts numbers₀ numbers nexts₀ nexts heads → Numbered glyphs used firsts numbers
-table-all glyphs g used firsts₀ firsts numbers₀ numbers nexts₀ nexts heads e t =
+table-all glyphs g used firsts₀ firsts numbers₀ numbers nexts₀ nexts heads pre e t =
     record {
       over = λ h. absurd (omega (arith, t .few));
       all = λ h. t .all ∙ ap (patternsBefore glyphs) e;
       first = λ h. t .first .done;
       cell = λ h k m. t .cell .done k (omega arith);
+      roomy = t .first .size ∙ pre .roomy;
+      places = t .cell .size ∙ pre .places;
     }
-
--- or there are too many
-pub table-many : (glyphs : List ℕ) (used : ℕ) (firsts numbers : List ℕ) → used ≡ 63 → fontCells < patternsIn glyphs → Numbered glyphs used firsts numbers
-table-many glyphs used firsts numbers e many =
-    record { over = λ h. many; all = λ h. absurd (omega arith); first = λ h. absurd (omega arith); cell = λ h. absurd (omega arith) }

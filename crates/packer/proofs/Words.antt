@@ -68,8 +68,8 @@ module _ (glyphs : List ℕ) where
         let small-x : (k : ℕ) → getD glyphs (x + k) 0 ≤ mostRow = λ k. within-at mostRow glyphs small (x + k) in
         let small-y : (k : ℕ) → getD glyphs (y + k) 0 ≤ mostRow = λ k. within-at mostRow glyphs small (y + k) in
         let parts = halves (getD glyphs x 0 + getD glyphs (x + 1) 0 * 65536) (getD glyphs (x + 2) 0 + getD glyphs (x + 3) 0 * 65536)
-                (getD glyphs y 0 + getD glyphs (y + 1) 0 * 65536) (getD glyphs (y + 2) 0 + getD glyphs (y + 3) 0 * 65536)
-                (omega (arith, within-at mostRow glyphs small x, small-x 1)) (omega (arith, within-at mostRow glyphs small y, small-y 1)) e in
+        (getD glyphs y 0 + getD glyphs (y + 1) 0 * 65536) (getD glyphs (y + 2) 0 + getD glyphs (y + 3) 0 * 65536)
+        (omega (arith, within-at mostRow glyphs small x, small-x 1)) (omega (arith, within-at mostRow glyphs small y, small-y 1)) e in
         let low = quarters _ _ _ _ (omega (arith, within-at mostRow glyphs small x)) (omega (arith, within-at mostRow glyphs small y)) (parts .0) in
         let high = quarters _ _ _ _ (omega (arith, small-x 2)) (omega (arith, small-y 2)) (parts .1) in
         go i l (low .0) (low .1) (high .0) (high .1)

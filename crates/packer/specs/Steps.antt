@@ -66,6 +66,8 @@ pub record Numbered (glyphs : List ℕ) (used : ℕ) (firsts numbers : List ℕ)
   pub all : used ≤ fontCells → used ≡ patternsIn glyphs
   pub first : used ≤ fontCells → (c : ℕ) → c < used → getD firsts c 0 ≡ firstIn glyphs c
   pub cell : used ≤ fontCells → (g : ℕ) → g < glyphsIn glyphs → getD numbers g 0 ≡ cellFor glyphs g
+  pub roomy : length firsts ≡ fontCells
+  pub places : length numbers ≡ mostGlyphs
 
 -- what `lay_font` asks
 pub record ToLay (glyphs firsts : List ℕ) (used : ℕ) (font : List ℕ) : Type 0 where

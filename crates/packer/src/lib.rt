@@ -30,8 +30,8 @@ pub enum Packed {
 // anything is written.
 pub fn pack(glyphs: &[u16], font: &mut [u16], cells: &mut [u8]) -> Packed
     ensures { λ r. ⌜ (said r ≡ answerOf (now (glyphs .entry)) (length (now (font .entry))) (length (now (cells .entry))))
-        × ((now (font .exit) ≡ fontLeft (now (glyphs .entry)) (now (font .entry)) (now (cells .entry)))
-        × (now (cells .exit) ≡ cellsLeft (now (glyphs .entry)) (now (font .entry)) (now (cells .entry)))) ⌝ }
+        × (now (font .exit) ≡ fontLeft (now (glyphs .entry)) (now (font .entry)) (now (cells .entry)))
+        × (now (cells .exit) ≡ cellsLeft (now (glyphs .entry)) (now (font .entry)) (now (cells .entry))) ⌝ }
 {
     if !are_glyphs(glyphs) {
         return Packed::NotGlyphs;
@@ -51,7 +51,8 @@ pub fn pack(glyphs: &[u16], font: &mut [u16], cells: &mut [u8]) -> Packed
     }
     lay_font(glyphs, &firsts, used, font);
     lay_cells(&numbers, count, cells);
-    Packed::Done(used as u32)
+    let taken = used as u32;
+    Packed::Done(taken)
 }
 
 // Whether these rows are glyphs that can be packed.
@@ -167,7 +168,12 @@ fn lay_font(glyphs: &[u16], firsts: &[u8], used: usize, font: &mut [u16])
     let mut cell = 0;
     while cell < used {
         let first = firsts[cell] as usize;
-        copy_cell(glyphs, font::CELL_ROWS * first, font, font::CELL_ROWS * cell);
+        copy_cell(
+            glyphs,
+            font::CELL_ROWS * first,
+            font,
+            font::CELL_ROWS * cell,
+        );
         cell += 1;
     }
     clear(font, font::CELL_ROWS * used);

@@ -1,14 +1,16 @@
-// How the cases that only the C face tells become the struct that crosses to C: of a level, a play, a painting and a writing. Those of a reading and
+// How the cases that only the C face tells become the struct that crosses to C: of a level, a play, a painting, a writing and a packing. Those of a reading and
 // of an image turned into a font, which the program tells too, stand in `answer`.
 ghost use mathlib.Core.Path.{_≡_};
 ghost use Rattle.pulse.specs.Pulse.{said as Pulse·said};
 ghost use Rattle.dac.specs.Play.{said as Dac·said};
 ghost use Rattle.judging.specs.Judging.{said as Judging·said};
 ghost use Rattle.writer.specs.Writing.{said as Writer·said};
+ghost use Rattle.packer.specs.Packing.{said as Packer·said};
 ghost use Rattle.answer.specs.Told.{told};
 use answer::Answer;
 use dac::Played;
 use judging::Painted;
+use packer::Packed;
 use pulse::Level;
 use writer::Written;
 
@@ -56,5 +58,17 @@ pub fn written_answer(written: Written) -> Answer
         Written::Done => answer::accepted(0),
         Written::NotAFont => answer::refused(4, 0),
         Written::NoRoom => answer::refused(6, 0),
+    }
+}
+
+// The answer of packing glyphs.
+pub fn packed_answer(packed: Packed) -> Answer
+    ensures { λ r. ⌜ told r ≡ Packer·said packed ⌝ }
+{
+    match packed {
+        Packed::Done(cells) => answer::accepted(cells),
+        Packed::NotGlyphs => answer::refused(16, 0),
+        Packed::TooManyPatterns => answer::refused(17, 0),
+        Packed::NoRoom => answer::refused(6, 0),
     }
 }

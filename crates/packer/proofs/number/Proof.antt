@@ -6,7 +6,7 @@ use Prim.Native.Nat.{_-_}
 use mathlib.Core.Path.{_≡_, refl}
 use mathlib.Core.Logic.{⊎-elim}
 use Rattle.packer.proofs.Words.{spot-below}
-use Rattle.packer.proofs.Table.{Table, table-none, table-cell, table-one, table-small, table-met, table-over, table-old, table-new, table-all, table-many}
+use Rattle.packer.proofs.Table.{Table, table-none, table-cell, table-one, table-small, table-met, table-over, table-old, table-new, table-all}
 use Rattle.packer.proofs.number.Statement.{statement}
 use Rattle.packer.proofs.number.Tie as tie
 
@@ -68,7 +68,7 @@ returns c =
     let a = s .args in
     let turn = (let h : tie.At-loop Inv-loop μ-loop = search in h .loop) in
     let found = (let p : tie.After-find Inv-loop μ-loop = search in p .find) in
-    table-many _ _ _ _ (omega arith) (table-over (a .glyphs .now) (turn .g) (turn .used) _ (turn .firsts) _ (turn .numbers) _ (turn .nexts) (turn .heads) (s .pre) (turn .inv) (omega arith) _ (found .ensures) (omega arith) (omega arith))
+    table-over (a .glyphs .now) (turn .g) (turn .used) _ (turn .firsts) _ (turn .numbers) _ (turn .nexts) (turn .heads) (s .pre) (turn .inv) (omega arith) _ (found .ensures) _ (omega arith) (omega arith) (omega arith)
 
 cast-firsts : tie.Need-cast-firsts Inv-loop μ-loop
 cast-firsts c =
@@ -168,7 +168,7 @@ returns-2 c =
     let s : tie.Start Inv-loop μ-loop = search in
     let a = s .args in
     let turn = (let h : tie.At-loop Inv-loop μ-loop = search in h .loop) in
-    table-all _ (turn .g) _ _ _ _ _ _ _ _ (omega arith) (turn .inv)
+    table-all _ (turn .g) _ _ _ _ _ _ _ _ (s .pre) (omega arith) (turn .inv)
 
 pub number-spec : {M : Type 1} → statement M
 number-spec =
