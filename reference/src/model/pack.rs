@@ -4,6 +4,7 @@ use super::display::{self, Kind};
 use super::image::{lit, CELLS, COLUMNS, FONT_ROWS, ROWS};
 use super::Refusal;
 use crate::parts::Settings;
+use std::array::from_fn;
 
 pub const MOST_GLYPHS: usize = 256;
 
@@ -15,13 +16,7 @@ pub struct DrawnGlyph {
 
 impl DrawnGlyph {
     fn of_rows(rows: &[u16]) -> Self {
-        let mut dots = [[false; COLUMNS]; ROWS];
-        for row in 0..ROWS {
-            for column in 0..COLUMNS {
-                dots[row][column] = lit(rows[row], column);
-            }
-        }
-        DrawnGlyph { dots }
+        DrawnGlyph { dots: from_fn(|row| from_fn(|column| lit(rows[row], column))) }
     }
 
     /// A row as a font has it.
