@@ -283,8 +283,8 @@ static void pack(void)
     size_t glyphs_length = take_slice(&given, 2);
     size_t font_length = take_room(&wanted, 2);
     size_t cells_length = take_room(&places, 1);
-    dirgeflint_answer answer = dirgeflint_pack(start(&given), glyphs_length, start(&wanted), font_length, start(&places),
-                                               cells_length);
+    dirgeflint_answer answer = dirgeflint_pack(start(&given), glyphs_length, start(&wanted), font_length,
+                                               start(&places), cells_length);
     give_health(stands(&given) && margins_stand(&wanted) && margins_stand(&places));
     give_answer(answer);
     give(start(&wanted), wanted.size);

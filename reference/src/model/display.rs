@@ -1,7 +1,7 @@
 //! From display words to dots: the words' kinds, the list of cells, the dot at one place, and the line.
 //!
-//! Where a character's dots come from is left open up to the line: `paint` takes them from a font's cells, and the picture
-//! that a packed screen must show has them from the drawn glyphs.
+//! Where a character's dots come from is left open up to the line: `paint` takes them from a font's cells, and the
+//! picture that a packed screen must show has them from the drawn glyphs.
 
 use super::image::{self, ROWS};
 use super::Refusal;

@@ -1,8 +1,8 @@
 //! The packer, and the pictures that packed screens show.
 //!
-//! First glyphs that differ from all others in one dot, at each of the 216 places; then refusals alone, in pairs and threes;
-//! then sets of glyphs drawn at random. With every eighth of these go lines of a screen whose characters name its glyphs:
-//! the library paints them with each glyph's cell in its place, the model makes them of the glyphs themselves.
+//! First a glyph that differs from all others in one dot, at each of the 216 places; then refusals alone, in pairs and
+//! threes; then sets of glyphs drawn at random. With every eighth of these go lines of a screen whose characters name
+//! its glyphs: the library paints them with each glyph's cell in its place, the model makes them of the glyphs.
 
 mod sets;
 
@@ -283,7 +283,7 @@ pub fn run<S: Pack + Paint>(subject: &S, plan: &Plan, say: &mut dyn FnMut(String
     let faults = (FAULTS.len() * FAULTS.len()) as u64;
     let part = Part {
         name: "pack",
-        what: "glyphs that differ in one dot, refusals alone, in pairs and threes, then random sets, and lines of screens of them",
+        what: "glyphs one dot apart, refusals alone, in pairs and threes, then random sets and lines of their screens",
         cases: ONE_DOT + faults + RANDOM,
         case: &|index, random| {
             if index < ONE_DOT {
@@ -340,7 +340,7 @@ mod tests {
         /// The room for the font, less what is due, with the answer's number; and that for the cells.
         font_rooms: RefCell<BTreeSet<(i64, u32)>>,
         cell_rooms: RefCell<BTreeSet<(i64, u32)>>,
-        /// Where the one glyph of its kind is, if it differs from one that is drawn more than once in one dot, and that dot.
+        /// The row and column of the one dot in which one glyph differs from all others, and where that glyph is.
         apart: RefCell<BTreeSet<(usize, u32, usize)>>,
         /// The first, a middle and the last place, if an empty glyph is there.
         empty: RefCell<BTreeSet<usize>>,
@@ -420,7 +420,7 @@ mod tests {
         assert!([0, 1, 2, 61, 62, 63, 255, 256, 257, 512].iter().all(|count| glyphs[count] > 20), "{glyphs:?}");
         let patterns = notes.patterns.into_inner();
         assert!([0, 1, 2, 61, 62, 63, 64, 256].iter().all(|count| patterns[count] > 20), "{patterns:?}");
-        // At and around the bounds, accepted or refused by the room; and refused for something else in a room too short.
+        // At and around the bounds, accepted or refused by the room; and refused for more than a room too short.
         let (font, cells) = (notes.font_rooms.into_inner(), notes.cell_rooms.into_inner());
         for rooms in [&font, &cells] {
             assert!([-1, 0, 1, 60, 65_535]

@@ -53,8 +53,8 @@ fn stepped(pattern: &Pattern, steps: &[i32], random: &mut Random) -> Pattern {
     made
 }
 
-/// Makes a pattern that is related to one pattern, by way of another that stays the same for all of a set. Each deceives a
-/// packer that looks at less than all 216 dots, or takes a number worked out from them for the dots.
+/// Makes a pattern that is related to one pattern, by way of another that stays the same for all of a set. Each
+/// deceives a packer that looks at less than all 216 dots, or takes a number worked out from them for the dots.
 pub type Kin = fn(&Pattern, &Pattern, &mut Random) -> Pattern;
 
 pub const KINS: &[Kin] = &[
@@ -222,7 +222,7 @@ pub fn family(kin: Kin, count: usize, random: &mut Random) -> Vec<Pattern> {
     family
 }
 
-/// The glyphs that show patterns, each of them at least once if there are enough glyphs; only the fourth order may miss one.
+/// Glyphs that show the patterns, each at least once if there are enough glyphs; only order 3 may miss some.
 pub fn arranged(patterns: &[Pattern], glyphs: usize, random: &mut Random) -> Vec<Pattern> {
     let count = patterns.len();
     if count == 0 {
