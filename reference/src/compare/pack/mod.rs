@@ -489,7 +489,7 @@ mod tests {
         }),
         ("a simple hash", |glyphs, font, cells| {
             by_key(
-                |rows| rows.iter().fold(0u64, |sum, &row| sum.wrapping_mul(31) + u64::from(row)),
+                |rows| rows.iter().fold(0u64, |sum, &row| sum.wrapping_mul(31).wrapping_add(row.into())),
                 glyphs,
                 font,
                 cells,
