@@ -5,7 +5,7 @@
  * A request is a byte that names the call, then its arguments in the order of the header: a number in as many bytes as
  * it has, low byte first; a record field by field; a slice as a 32-bit count of elements and the elements. The reply is
  * a byte of health, then the answer if the call has one, the record if one was lent, and the elements of
- * the slice lent for writing. Health 0: nothing outside the memory lent was written, and what was lent for reading is
+ * each slice lent for writing. Health 0: nothing outside the memory lent was written, and what was lent for reading is
  * as it was. Replies are held back until the request '.', which has no reply of its own, so that many calls can be
  * under way.
  */
@@ -62,7 +62,7 @@ static uint8_t take_byte(void)
     return value;
 }
 
-enum { MARGIN = 16, LIMIT = 1 << 17, MARK = 0xC3 };
+enum { MARGIN = 16, LIMIT = 1 << 18, MARK = 0xC3 };
 
 /* Memory to lend, between two margins that are not lent. */
 typedef struct area {
@@ -276,6 +276,21 @@ static void image_to_font(void)
     give(start(&wanted), wanted.size);
 }
 
+static area places;
+
+static void pack(void)
+{
+    size_t glyphs_length = take_slice(&given, 2);
+    size_t font_length = take_room(&wanted, 2);
+    size_t cells_length = take_room(&places, 1);
+    dirgeflint_answer answer = dirgeflint_pack(start(&given), glyphs_length, start(&wanted), font_length,
+                                               start(&places), cells_length);
+    give_health(stands(&given) && margins_stand(&wanted) && margins_stand(&places));
+    give_answer(answer);
+    give(start(&wanted), wanted.size);
+    give(start(&places), places.size);
+}
+
 int main(void)
 {
     setvbuf(stdin, NULL, _IOFBF, 1 << 16);
@@ -296,6 +311,7 @@ int main(void)
         case 'R': hex_read(); break;
         case 'W': hex_write(); break;
         case 'I': image_to_font(); break;
+        case 'G': pack(); break;
         default: exit(UNKNOWN_CALL);
         }
     }

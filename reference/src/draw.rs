@@ -6,10 +6,8 @@
 
 use crate::lines::{decimal, lines, trimmed, words};
 use crate::model::hex::written_text;
-use crate::model::image::{self, CELLS, FONT_ROWS, ROWS};
+use crate::model::image::{self, CELLS, COLUMNS, FONT_ROWS, ROWS};
 use std::fmt;
-
-const COLUMNS: usize = 12;
 
 /// What is wrong with a drawing, and what to do about it.
 #[derive(Clone, Debug, PartialEq, Eq)]

@@ -98,3 +98,7 @@ pub trait Hex {
     fn write(&self, font: &[u16], text: &mut [u8]) -> Answer;
     fn image_to_font(&self, image: &[u8], font: &mut [u16]) -> Answer;
 }
+
+pub trait Pack {
+    fn pack(&self, glyphs: &[u16], font: &mut [u16], cells: &mut [u8]) -> Answer;
+}

@@ -159,6 +159,28 @@ static void image_to_font(void)
     dirgeflint_image_to_font(image, sizeof image, font, 1116);
 }
 
+static uint16_t glyphs[256 * 18];
+static uint8_t cells[256];
+static size_t glyphs_length;
+static void pack(void)
+{
+    dirgeflint_pack(glyphs, glyphs_length, font, 1116, cells, sizeof cells);
+}
+
+/* Glyphs that show so many patterns, the last of their rows being the last to differ. */
+static void sets(void)
+{
+    static const uint16_t patterns[] = { 1, 2, 61, 62, 63, 256 };
+    for (size_t i = 0; i < sizeof patterns / sizeof patterns[0]; i++) {
+        for (uint16_t glyph = 0; glyph < 256; glyph++)
+            glyphs[18 * glyph + 17] = glyph % patterns[i];
+        for (size_t count = 0; count <= 256; count += 64) {
+            glyphs_length = 18 * count;
+            measure(pack);
+        }
+    }
+}
+
 int main(void)
 {
     measure(none);
@@ -201,5 +223,7 @@ int main(void)
     report("dirgeflint_hex_read");
     measure(image_to_font);
     report("dirgeflint_image_to_font");
+    sets();
+    report("dirgeflint_pack");
     return 0;
 }

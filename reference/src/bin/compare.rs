@@ -17,6 +17,7 @@ const PARTS: &[(&str, Run)] = &[
     ("port", |library, plan, say| reference::compare::port::run(library, plan, say)),
     ("paint", |library, plan, say| reference::compare::paint::run(library, plan, say)),
     ("hex", |library, plan, say| reference::compare::hex::run(library, plan, say)),
+    ("pack", |library, plan, say| reference::compare::pack::run(library, plan, say)),
 ];
 
 struct Request {

@@ -3,7 +3,7 @@
 use super::message::Message;
 use super::Library;
 use crate::fast::Fast;
-use crate::parts::{Answer, Dac, Hex, Paint, PaintOrder, Port, PortRecord, Pulse, RunningRecord};
+use crate::parts::{Answer, Dac, Hex, Pack, Paint, PaintOrder, Port, PortRecord, Pulse, RunningRecord};
 
 impl Pulse for Library {
     fn level(&self, channel: u32, byte: u8, t: u32) -> Answer {
@@ -148,6 +148,21 @@ impl Hex for Library {
         });
         let answer = reply.take_answer();
         reply.take_words(font);
+        answer
+    }
+}
+
+impl Pack for Library {
+    fn pack(&self, glyphs: &[u16], font: &mut [u16], cells: &mut [u8]) -> Answer {
+        let request = Message::request(b'G').words(glyphs).words(font).slice(cells);
+        let mut reply = self.exchange(&request, || {
+            let (mut font, mut cells) = (font.to_vec(), cells.to_vec());
+            let answer = Fast.pack(glyphs, &mut font, &mut cells);
+            Message::reply().answer(answer).plain_words(&font).plain(&cells)
+        });
+        let answer = reply.take_answer();
+        reply.take_words(font);
+        reply.take_bytes(cells);
         answer
     }
 }

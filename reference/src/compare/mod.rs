@@ -4,6 +4,7 @@
 
 pub mod dac;
 pub mod hex;
+pub mod pack;
 pub mod paint;
 pub mod port;
 pub mod pulse;

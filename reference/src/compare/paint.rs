@@ -5,7 +5,7 @@ use super::{run as drive, CaseResult, Difference, Part, Plan};
 use crate::model::display::{cells, Cell};
 use crate::model::image::{FONT_ROWS, ROWS};
 use crate::model::Model;
-use crate::parts::{Paint, PaintOrder, Settings};
+use crate::parts::{Answer, Paint, PaintOrder, Settings};
 use crate::random::Random;
 
 const SCREENS: u64 = 50_000;
@@ -13,15 +13,15 @@ const LINES_A_SCREEN: usize = 8;
 
 /// Everything one call is given.
 #[derive(Clone, Debug)]
-struct Scene {
-    words: Vec<u16>,
-    font: Vec<u16>,
-    settings: Settings,
-    frame: u32,
-    line: u32,
-    width: u32,
+pub(super) struct Scene {
+    pub words: Vec<u16>,
+    pub font: Vec<u16>,
+    pub settings: Settings,
+    pub frame: u32,
+    pub line: u32,
+    pub width: u32,
     /// How many bytes are lent for the dots.
-    room: usize,
+    pub room: usize,
 }
 
 impl Scene {
@@ -37,8 +37,18 @@ impl Scene {
     }
 
     fn compare(&self, subject: &dyn Paint, random: &mut Random) -> Result<(), String> {
+        self.hold(subject, random, |dots| Model.paint(&self.order(), dots))
+    }
+
+    /// Holds the subject to what `due` answers and lays.
+    pub fn hold(
+        &self,
+        subject: &dyn Paint,
+        random: &mut Random,
+        due: impl FnOnce(&mut [u8]) -> Answer,
+    ) -> Result<(), String> {
         let mut rooms = Rooms::of_bytes(self.room, random);
-        let expected = Model.paint(&self.order(), rooms.model());
+        let expected = due(rooms.model());
         let got = subject.paint(&self.order(), rooms.library());
         let what = if got != expected {
             format!("the answers differ\n  model   {expected:?}\n  library {got:?}")
@@ -54,6 +64,14 @@ impl Scene {
         let Scene { words, font, settings, frame, line, width, room } = self;
         let numbers = format!("frame {frame}, line {line}, width {width}, room {room}");
         Err(format!("{what}\n  settings {settings:?}\n  {numbers}\n  words {words:?}\n  font {font:?}"))
+    }
+
+    /// Turns to another line, often at the edge of one of the screen's cells.
+    pub fn turn_to_a_line(&mut self, cells: &[Cell], random: &mut Random) {
+        self.frame = frame(random);
+        self.line = line(cells, random);
+        self.width = width(cells, random);
+        self.room = self.width as usize + if random.one_in(3) { 0 } else { random.between(1, 20) };
     }
 }
 
@@ -97,7 +115,7 @@ fn end(random: &mut Random) -> u16 {
 }
 
 /// The words of a screen; `index` chooses the style, so that every special word comes at every place.
-fn words(index: u64, random: &mut Random) -> Vec<u16> {
+pub(super) fn words(index: u64, random: &mut Random) -> Vec<u16> {
     let style = index % 8;
     let turn = (index / 8) as usize;
     let mut words: Vec<u16> = (0..64)
@@ -164,7 +182,7 @@ fn up_to(last: u32, random: &mut Random) -> u32 {
     }
 }
 
-fn settings(random: &mut Random) -> Settings {
+pub(super) fn settings(random: &mut Random) -> Settings {
     // Mostly near the left edge, so that narrow lines reach the cells.
     let h = if random.one_in(3) { up_to(63, random) } else { random.below(4) as u32 };
     Settings {
@@ -236,10 +254,7 @@ fn screen_case(subject: &dyn Paint, fonts: &[Vec<u16>], index: u64, random: &mut
     let mut scene =
         Scene { words, font: fonts[random.below(fonts.len())].clone(), settings, frame: 0, line: 0, width: 0, room: 0 };
     for _ in 0..LINES_A_SCREEN {
-        scene.frame = frame(random);
-        scene.line = line(&cells, random);
-        scene.width = width(&cells, random);
-        scene.room = scene.width as usize + if random.one_in(3) { 0 } else { random.between(1, 20) };
+        scene.turn_to_a_line(&cells, random);
         scene.compare(subject, random)?;
     }
     Ok(LINES_A_SCREEN as u64)
@@ -354,7 +369,6 @@ mod tests {
     use super::*;
     use crate::compare::testing::silent;
     use crate::fast::Fast;
-    use crate::parts::Answer;
     use std::cell::RefCell;
     use std::collections::BTreeSet;
 

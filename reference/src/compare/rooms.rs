@@ -1,5 +1,6 @@
-//! The room lent to a call, once for each side.
+//! The room lent to a call, once for each side, and the judgement on what both sides came to.
 
+use crate::parts::Answer;
 use crate::random::Random;
 use std::fmt::Display;
 use std::ops::Range;
@@ -66,6 +67,23 @@ impl<T: Clone + PartialEq + Display> Rooms<T> {
             self.before[at]
         ))
     }
+}
+
+/// Judges the two answers, the model's first, and how the rooms differ after the calls.
+pub(crate) fn judge(
+    answers: [Answer; 2],
+    difference: Option<String>,
+    inputs: impl FnOnce() -> String,
+) -> Result<Answer, String> {
+    let [expected, got] = answers;
+    let what = if got != expected {
+        format!("the answers differ\n  model   {expected:?}\n  library {got:?}")
+    } else if let Some(difference) = difference {
+        format!("the rooms differ after {expected:?}\n{difference}")
+    } else {
+        return Ok(expected);
+    };
+    Err(format!("{what}\n  {}", inputs()))
 }
 
 #[cfg(test)]

@@ -2,6 +2,7 @@
 
 mod dac;
 mod hex;
+mod pack;
 mod paint;
 mod port;
 mod pulse;

@@ -1,4 +1,7 @@
 //! From display words to dots: the words' kinds, the list of cells, the dot at one place, and the line.
+//!
+//! Where a character's dots come from is left open up to the line: `paint` takes them from a font's cells, and the
+//! picture that a packed screen must show has them from the drawn glyphs.
 
 use super::image::{self, ROWS};
 use super::Refusal;
@@ -10,6 +13,7 @@ pub const LAST_LINE: u32 = 1023;
 
 #[derive(Clone, Copy, Debug, PartialEq, Eq)]
 pub enum Kind {
+    /// The code is that of the font's cell, 0 to 61, in a word; on a screen of drawn glyphs it is the glyph's number.
     Character {
         code: u16,
         colour: u16,
@@ -68,13 +72,19 @@ impl Cell {
 
 /// Every cell of the screen, in the order of the words.
 pub fn cells(words: &[u16], settings: &Settings) -> Vec<Cell> {
+    let kinds: Vec<Kind> = words.iter().map(|&word| kind(word)).collect();
+    cells_of(&kinds, settings)
+}
+
+/// The same where the words are known by their kinds.
+pub fn cells_of(kinds: &[Kind], settings: &Settings) -> Vec<Cell> {
     let mut cells = Vec::new();
     let mut left = 4 * settings.h;
     let mut top = 4 * settings.v;
     let mut size = 1;
     let mut background = settings.colour as u16;
-    for &word in words {
-        let glyph = match kind(word) {
+    for &kind in kinds {
+        let glyph = match kind {
             Kind::End => break,
             Kind::Return { size: next_size, spacing } => {
                 // The row that ends here has its height even if it has no cell.
@@ -111,20 +121,21 @@ pub fn blink_lit(ratio: u32, frequency: u32, frame: u32) -> bool {
     frame % divisor < lit_frames
 }
 
+/// Whether the character of a code has its dot lit in a row and a column.
+pub type Dots<'a> = &'a dyn Fn(usize, usize, usize) -> bool;
+
 /// Whether a glyph has its dot lit at a dot and a line of its cell.
-fn glyph_lit(glyph: &Glyph, cell: &Cell, dot: u32, line: u32, font: &[u16], shown: bool) -> bool {
+fn glyph_lit(glyph: &Glyph, cell: &Cell, dot: u32, line: u32, dots: Dots, shown: bool) -> bool {
     if glyph.blink && !shown {
         return false;
     }
     let column = (dot - cell.left) / cell.size;
     let row = (line - cell.top) / cell.size;
-    let bits = font[ROWS * usize::from(glyph.code) + row as usize];
-    // Bit 11 is the leftmost.
-    bits >> (11 - column) & 1 == 1
+    dots(usize::from(glyph.code), row as usize, column as usize)
 }
 
 /// The painted byte at one place of the screen.
-fn dot_at(cells: &[Cell], font: &[u16], settings: &Settings, frame: u32, dot: u32, line: u32) -> u8 {
+fn dot_at(cells: &[Cell], dots: Dots, settings: &Settings, frame: u32, dot: u32, line: u32) -> u8 {
     const VIDEO: u8 = 0;
     let painted = |colour: u16| 8 + colour as u8;
 
@@ -136,9 +147,16 @@ fn dot_at(cells: &[Cell], font: &[u16], settings: &Settings, frame: u32, dot: u3
     };
     let shown = blink_lit(settings.ratio, settings.frequency, frame);
     match &cell.glyph {
-        Some(glyph) if glyph_lit(glyph, cell, dot, line, font, shown) => painted(glyph.colour),
+        Some(glyph) if glyph_lit(glyph, cell, dot, line, dots, shown) => painted(glyph.colour),
         _ if settings.mode >= 2 => painted(cell.background),
         _ => VIDEO,
+    }
+}
+
+/// The first dots of a line, as many as the room holds.
+pub fn lay(cells: &[Cell], dots: Dots, settings: &Settings, frame: u32, line: u32, room: &mut [u8]) {
+    for (dot, byte) in room.iter_mut().enumerate() {
+        *byte = dot_at(cells, dots, settings, frame, dot as u32, line);
     }
 }
 
@@ -173,9 +191,8 @@ fn judge(order: &PaintOrder, room: usize) -> Result<(), Refusal> {
 pub fn paint(order: &PaintOrder, dots: &mut [u8]) -> Result<(), Refusal> {
     judge(order, dots.len())?;
     let cells = cells(order.words, &order.settings);
-    for dot in 0..order.width {
-        dots[dot as usize] = dot_at(&cells, order.font, &order.settings, order.frame, dot, order.line);
-    }
+    let of_font = |code, row, column| image::lit(order.font[ROWS * code + row], column);
+    lay(&cells, &of_font, &order.settings, order.frame, order.line, &mut dots[..order.width as usize]);
     Ok(())
 }
 

@@ -4,6 +4,7 @@ use super::Refusal;
 
 pub const CELLS: usize = 62;
 pub const ROWS: usize = 18;
+pub const COLUMNS: usize = 12;
 pub const FONT_ROWS: usize = CELLS * ROWS;
 pub const IMAGE_BYTES: usize = 8192;
 
@@ -41,6 +42,11 @@ fn use_of(address: usize) -> Use {
 /// Whether this is a font that a painter or the writer takes.
 pub fn is_font(font: &[u16]) -> bool {
     font.len() == FONT_ROWS && font.iter().all(|&row| row <= 4095)
+}
+
+/// Whether a row has its dot lit in a column; bit 11 is the leftmost.
+pub fn lit(row: u16, column: usize) -> bool {
+    row >> (COLUMNS - 1 - column) & 1 == 1
 }
 
 /// The image of a font.

@@ -5,11 +5,12 @@ pub mod display;
 pub mod fontcheck;
 pub mod hex;
 pub mod image;
+pub mod pack;
 pub mod port;
 pub mod pulse;
 pub mod share;
 
-use crate::parts::{Answer, Dac, Hex, Paint, PaintOrder, Port, PortRecord, Pulse, RunningRecord};
+use crate::parts::{Answer, Dac, Hex, Pack, Paint, PaintOrder, Port, PortRecord, Pulse, RunningRecord};
 
 /// Why a call was refused: the number from the customer's table, and the place.
 #[derive(Clone, Copy, Debug, PartialEq, Eq)]
@@ -97,6 +98,12 @@ impl Hex for Model {
     }
 }
 
+impl Pack for Model {
+    fn pack(&self, glyphs: &[u16], font: &mut [u16], cells: &mut [u8]) -> Answer {
+        answer(pack::pack(glyphs, font, cells))
+    }
+}
+
 #[cfg(test)]
 mod tests {
     use super::*;
@@ -115,6 +122,7 @@ mod tests {
         let settings = Settings { on: true, mode: 0, colour: 0, h: 0, v: 0, ratio: 0, frequency: 0 };
         let order = PaintOrder { words: &[0; 64], font: &font, settings, frame: 0, line: 0, width: 1 };
         assert_eq!(Model.paint(&order, &mut [9]), Answer::accepted(0));
+        assert_eq!(Model.pack(&[0; 36], &mut font.clone(), &mut [9; 2]), Answer::accepted(1));
     }
 
     #[test]

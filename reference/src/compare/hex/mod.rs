@@ -5,14 +5,13 @@
 
 pub(crate) mod texts;
 
-use super::rooms::Rooms;
+use super::rooms::{judge, Rooms};
 use super::{run as drive, CaseResult, Difference, Part, Plan};
 use crate::model::hex::WRITTEN_TEXT;
 use crate::model::image::{self, FONT_ROWS, IMAGE_BYTES};
 use crate::model::Model;
 use crate::parts::{Answer, Hex};
 use crate::random::Random;
-use std::fmt::Display;
 
 const CHANGED_SHORT: u64 =
     256 * texts::SHORT.len() as u64 + 2 * texts::SHORT.len() as u64 + 256 * (texts::SHORT.len() as u64 + 1);
@@ -25,35 +24,20 @@ fn shown(bytes: &[u8]) -> String {
     format!("b\"{}\"", bytes.escape_ascii())
 }
 
-/// Judges the two answers, the model's first, and the rooms after the calls.
-fn judge<T: Clone + PartialEq + Display>(
-    answers: [Answer; 2],
-    rooms: &Rooms<T>,
-    inputs: impl FnOnce() -> String,
-) -> Result<Answer, String> {
-    let [expected, got] = answers;
-    let what = if got != expected {
-        format!("the answers differ\n  model   {expected:?}\n  library {got:?}")
-    } else if let Some(difference) = rooms.difference() {
-        format!("the rooms differ after {expected:?}\n{difference}")
-    } else {
-        return Ok(expected);
-    };
-    Err(format!("{what}\n  {}", inputs()))
-}
-
 /// Also returns the room after the call.
 fn compare_read(subject: &dyn Hex, text: &[u8], room: usize, random: &mut Random) -> Result<(Answer, Vec<u8>), String> {
     let mut rooms = Rooms::of_bytes(room, random);
     let answers = [Model.read(text, rooms.model()), subject.read(text, rooms.library())];
-    let answer = judge(answers, &rooms, || format!("read, room {room}, text of {} bytes {}", text.len(), shown(text)))?;
+    let answer = judge(answers, rooms.difference(), || {
+        format!("read, room {room}, text of {} bytes {}", text.len(), shown(text))
+    })?;
     Ok((answer, rooms.model().to_vec()))
 }
 
 fn compare_write(subject: &dyn Hex, font: &[u16], room: usize, random: &mut Random) -> Result<Answer, String> {
     let mut rooms = Rooms::of_bytes(room, random);
     let answers = [Model.write(font, rooms.model()), subject.write(font, rooms.library())];
-    judge(answers, &rooms, || format!("write, room {room}, font {font:?}"))
+    judge(answers, rooms.difference(), || format!("write, room {room}, font {font:?}"))
 }
 
 /// Also returns the room after the call.
@@ -65,7 +49,7 @@ fn compare_image(
 ) -> Result<(Answer, Vec<u16>), String> {
     let mut rooms = Rooms::of_rows(room, random);
     let answers = [Model.image_to_font(image, rooms.model()), subject.image_to_font(image, rooms.library())];
-    let answer = judge(answers, &rooms, || {
+    let answer = judge(answers, rooms.difference(), || {
         format!("image to font, font room {room}, image of {} bytes {image:?}", image.len())
     })?;
     Ok((answer, rooms.model().to_vec()))
