@@ -30,6 +30,7 @@ static int colour_part(const char *file, const struct statement *line, size_t pl
 /* A cell by its number, which begins with a digit, or by the name of a glyph that is in it. */
 static int cell_part(const char *file, const struct statement *line, const struct table *table, uint32_t *cell)
 {
+    char room[SHOWN];
     struct slice word = line->words[1];
     bool is_number = word.start[0] >= '0' && word.start[0] <= '9';
     if (is_number && read_number_within(word, 0, DIRGEFLINT_CELLS - 1, cell))
@@ -37,7 +38,8 @@ static int cell_part(const char *file, const struct statement *line, const struc
     if (is_number)
         return wrong_part(file, line, 1, "no cell: cells are 0 to 61" IN_FORM);
     if (table == NULL)
-        return wrong_part(file, line, 1, "no cell: cells are 0 to 61" IN_FORM "; for the name of a glyph give its table: --table TABLE.txt");
+        return bad_input(file, line->line, "%s is no cell: cells are 0 to 61" IN_FORM "; for the name of a glyph give its table: --table TABLE.txt",
+                         shown_name(word, room));
     return find_cell(table, file, line->line, word, cell);
 }
 

@@ -142,19 +142,25 @@ int judge_sum(const struct table *table, const uint16_t rows[DIRGEFLINT_FONT_ROW
                      table->sum, sum);
 }
 
-int find_cell(const struct table *table, const char *file, size_t line, struct slice name, uint32_t *cell)
+static int no_glyph(const struct names *names, const char *file, size_t line, struct slice name)
 {
     char room[SHOWN], near_room[SHOWN];
-    const struct names *names = &table->names;
-    if (judge_name(file, line, name) != DONE)
-        return BAD;
-    size_t found = find_name(names, name), near = find_near(names, name);
+    size_t near = find_near(names, name);
     shown_name(name, room);
-    if (found < names->count) {
-        *cell = table->cells[found];
-        return DONE;
-    }
     if (near < names->count)
         return bad_input(file, line, "%s is no glyph of the table; the nearest is %s", room, shown_name(slice_of(names->all[near].text), near_room));
-    return bad_input(file, line, "%s is no glyph of the table: look there for its name; a letter of another alphabet may look the same", room);
+    if (name.length == 1 || single_letter(name) != 0)
+        return bad_input(file, line, "%s is no glyph of the table: look there for its name; a letter of another alphabet may look the same", room);
+    return bad_input(file, line, "%s is no glyph of the table: look there for its name", room);
+}
+
+int find_cell(const struct table *table, const char *file, size_t line, struct slice name, uint32_t *cell)
+{
+    if (judge_name(file, line, name) != DONE)
+        return BAD;
+    size_t found = find_name(&table->names, name);
+    if (found == table->names.count)
+        return no_glyph(&table->names, file, line, name);
+    *cell = table->cells[found];
+    return DONE;
 }
