@@ -7,7 +7,7 @@
 
 #include "say.h"
 
-enum { NO_LETTER = 0 };
+#define NO_LETTER UINT32_MAX
 
 /* The next letter of UTF-8, which is taken off; NO_LETTER if it is none, or written with more bytes than it needs. */
 static uint32_t next_letter(struct slice *rest)
@@ -15,7 +15,7 @@ static uint32_t next_letter(struct slice *rest)
     static const struct {
         unsigned char mark, mask;
         uint32_t least;
-    } forms[] = { { 0x00, 0x80, 1 }, { 0xC0, 0xE0, 0x80 }, { 0xE0, 0xF0, 0x800 }, { 0xF0, 0xF8, 0x10000 } };
+    } forms[] = { { 0x00, 0x80, 0 }, { 0xC0, 0xE0, 0x80 }, { 0xE0, 0xF0, 0x800 }, { 0xF0, 0xF8, 0x10000 } };
     unsigned char first = (unsigned char)rest->start[0];
     for (size_t more = 0; more < sizeof forms / sizeof forms[0] && more < rest->length; more++) {
         if ((first & forms[more].mask) != forms[more].mark)
@@ -155,7 +155,7 @@ size_t find_near(const struct names *names, struct slice word)
 
 uint32_t single_letter(struct slice name)
 {
-    uint32_t letter = broken_rule(name) == NULL ? next_letter(&name) : NO_LETTER;
+    uint32_t letter = broken_rule(name) == NULL ? next_letter(&name) : 0;
     return letter > 0x7F && name.length == 0 ? letter : 0;
 }
 

@@ -114,6 +114,14 @@ static bool look_at_folder(const char *path, struct stat *folder)
     return found;
 }
 
+/* Whether two paths, which end in no link, name one file, be it there or not. */
+static bool is_one_name(const char *one, const char *other)
+{
+    struct stat of_one, of_other;
+    return strcmp(after_last_slash(one), after_last_slash(other)) == 0 && look_at_folder(one, &of_one) && look_at_folder(other, &of_other) &&
+           is_same(&of_one, &of_other);
+}
+
 /* Whether two paths lead to one regular file, or would, there being none yet. */
 static bool is_one_file(const char *one, const char *other)
 {
@@ -121,8 +129,11 @@ static bool is_one_file(const char *one, const char *other)
     bool one_exists = stat(one, &of_one) == 0, other_exists = stat(other, &of_other) == 0;
     if (one_exists || other_exists)
         return one_exists && other_exists && S_ISREG(of_one.st_mode) && is_same(&of_one, &of_other);
-    return look_at_folder(one, &of_one) && look_at_folder(other, &of_other) && is_same(&of_one, &of_other) &&
-           strcmp(after_last_slash(one), after_last_slash(other)) == 0;
+    char *one_end = follow_links(beside("", one)), *other_end = follow_links(beside("", other));
+    bool same = one_end != NULL && other_end != NULL && is_one_name(one_end, other_end);
+    free(one_end);
+    free(other_end);
+    return same;
 }
 
 int judge_outputs(const char *command, const struct option *one, const struct option *other)
