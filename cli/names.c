@@ -39,7 +39,9 @@ static bool is_seen(uint32_t letter)
 {
     static const struct {
         uint32_t first, last;
-    } unseen[] = { { 0, 0x20 }, { 0x7F, 0xA0 }, { 0xAD, 0xAD }, { 0x2000, 0x200F }, { 0x2028, 0x202F }, { 0x205F, 0x206F }, { 0x3000, 0x3000 }, { 0xFEFF, 0xFEFF } };
+    } unseen[] = {
+        { 0, 0x20 }, { 0x7F, 0xA0 }, { 0xAD, 0xAD }, { 0x2000, 0x200F }, { 0x2028, 0x202F }, { 0x205F, 0x206F }, { 0x3000, 0x3000 }, { 0xFEFF, 0xFEFF },
+    };
     for (size_t i = 0; i < sizeof unseen / sizeof unseen[0]; i++)
         if (letter >= unseen[i].first && letter <= unseen[i].last)
             return false;

@@ -1,5 +1,4 @@
 #include <stdio.h>
-#include <string.h>
 
 #include "commands.h"
 #include "fonttext.h"
@@ -82,8 +81,8 @@ static int too_many_patterns(const char *file, const struct glyphs *glyphs, dirg
     size_t first = different[DIRGEFLINT_CELLS];
     int apart = find_likest(glyphs, different, count, &one, &other);
     return refused(file, glyphs->names.all[first].line, answer,
-                   "glyph %s finds no cell: %zu glyphs are different, and a font has %d cells; leave out %zu, or draw them as others are: the most alike are %s at "
-                   "line %zu and %s at line %zu, which differ in %d dot%s",
+                   "glyph %s finds no cell: %zu glyphs are different, and a font has %d cells; leave out %zu, or draw them as others are: the most "
+                   "alike are %s at line %zu and %s at line %zu, which differ in %d dot%s",
                    shown_glyph(glyphs, first, room), count, (int)DIRGEFLINT_CELLS, count - DIRGEFLINT_CELLS, shown_glyph(glyphs, one, one_room),
                    glyphs->names.all[one].line, shown_glyph(glyphs, other, other_room), glyphs->names.all[other].line, apart, apart == 1 ? "" : "s");
 }

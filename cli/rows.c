@@ -1,7 +1,6 @@
 #include "rows.h"
 
 #include <stdint.h>
-#include <string.h>
 
 #include "input.h"
 #include "say.h"
