@@ -4,6 +4,7 @@
 
 int check_command(int count, char **words);
 int font_command(int count, char **words);
+int pack_command(int count, char **words);
 int show_command(int count, char **words);
 int paint_command(int count, char **words);
 int play_command(int count, char **words);

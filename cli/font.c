@@ -2,6 +2,7 @@
 
 #include "commands.h"
 #include "drawing.h"
+#include "fonttext.h"
 #include "input.h"
 #include "options.h"
 #include "output.h"
@@ -41,10 +42,9 @@ static int judge_empty(const char *file, const struct drawing *drawing, bool who
 static int write_text(const struct drawing *drawing, const char *path)
 {
     static uint8_t text[DIRGEFLINT_TEXT_BYTES];
-    dirgeflint_answer answer = dirgeflint_hex_write(drawing->rows, DIRGEFLINT_FONT_ROWS, text, sizeof text);
-    if (answer.number != DIRGEFLINT_ACCEPTED)
-        return refused(PROGRAM, 0, answer, "the font: %s", dirgeflint_reason(answer.number));
     struct output output;
+    if (make_text(drawing->rows, text) != DONE)
+        return BAD;
     if (!open_output(path, &output))
         return TROUBLE;
     fwrite(text, 1, sizeof text, output.stream);
@@ -59,7 +59,7 @@ int font_command(int count, char **words)
     int status;
     if (!read_options(&usage, &count, words, &status))
         return status;
-    status = judge_output("font", options[0].value, words[0]);
+    status = judge_output("font", &options[0], words[0]);
     if (status == DONE)
         status = read_drawing(words[0], &drawing);
     if (status == DONE)

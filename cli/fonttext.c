@@ -43,3 +43,23 @@ int load_font(const char *path, bool whole, struct font *font)
     free_input(&input);
     return status;
 }
+
+int make_text(const uint16_t rows[DIRGEFLINT_FONT_ROWS], uint8_t text[DIRGEFLINT_TEXT_BYTES])
+{
+    dirgeflint_answer answer = dirgeflint_hex_write(rows, DIRGEFLINT_FONT_ROWS, text, DIRGEFLINT_TEXT_BYTES);
+    if (answer.number != DIRGEFLINT_ACCEPTED)
+        return refused(PROGRAM, 0, answer, "the font: %s", dirgeflint_reason(answer.number));
+    return DONE;
+}
+
+uint32_t sum_of_text(const uint8_t text[DIRGEFLINT_TEXT_BYTES])
+{
+    const uint32_t divisor = 0xEDB88320; /* of the CRC-32 that gzip and zip use, its lowest power in the highest bit */
+    uint32_t rest = UINT32_MAX;
+    for (size_t i = 0; i < DIRGEFLINT_TEXT_BYTES; i++) {
+        rest ^= text[i];
+        for (int bit = 0; bit < 8; bit++)
+            rest = rest >> 1 ^ (rest % 2 == 1 ? divisor : 0);
+    }
+    return ~rest;
+}

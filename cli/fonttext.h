@@ -1,4 +1,4 @@
-/* A font from its text, with all that has to be said about it. */
+/* A font from its text, with all that has to be said about it; and the text of a font. */
 #ifndef FONTTEXT_H
 #define FONTTEXT_H
 
@@ -11,5 +11,11 @@ struct font {
 
 /* Reads a font; gives the status. A text that does not give every byte is warned of, or is bad input if it has to be whole. */
 int load_font(const char *path, bool whole, struct font *font);
+
+/* Makes the text of a font, as it is written to files; gives the status. */
+int make_text(const uint16_t rows[DIRGEFLINT_FONT_ROWS], uint8_t text[DIRGEFLINT_TEXT_BYTES]);
+
+/* What a table knows its font by: the CRC-32 of that text. */
+uint32_t sum_of_text(const uint8_t text[DIRGEFLINT_TEXT_BYTES]);
 
 #endif

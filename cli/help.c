@@ -21,6 +21,7 @@ static const char on_all[] =
     "\n"
     "  check   tells whether Intel hex texts hold a font, and if not, why\n"
     "  font    makes a font's text of a drawing\n"
+    "  pack    makes a font's text of drawn glyphs, one cell for all that are alike\n"
     "  show    makes a drawing of a font's text\n"
     "  paint   paints a screen, as a picture or as characters\n"
     "  play    plays the tuning DAC: a line for each period, and a wave\n"
@@ -73,6 +74,37 @@ static const char on_font[] =
     "\n"
     "A real chip may store a font otherwise: " WHERE ".\n" STATUS("the drawing is bad", CANNOT_WRITE);
 
+static const char on_pack[] =
+    "usage: dirgeflint pack DRAWINGS.txt [-o FONT.hex] [--table TABLE.txt]\n"
+    "\n"
+    "Makes the text of a font of drawn glyphs, up to 256 of them: glyphs that are the\n"
+    "same in every dot share a cell, and at most 62 may be different. Without -o the\n"
+    "text goes to standard output.\n"
+    "\n"
+    "  --table T   the table goes to this file, and not to standard output, or to\n"
+    "              standard error if the text goes to standard output\n"
+    "\n"
+    "The drawings have for each glyph a heading, 'glyph' and a name, with a comment\n"
+    "after ; or nothing; then 18 rows of 12 dots, # lit and . unlit:\n"
+    "\n"
+    "  glyph A\n"
+    "  ............\n"
+    "  .....##.....\n"
+    "  (16 rows more)\n"
+    "\n"
+    "A name is a word in UTF-8 of 64 bytes at most, without ; and #, that does not\n"
+    "begin with a digit: A, \303\204, volume-bar-3, digit-7. Each stands once.\n"
+    "\n"
+    "The table tells the cell of each glyph; dirgeflint paint --table takes it:\n"
+    "\n"
+    "  font 5A0C93F1\n"
+    "  cell 00 A\n"
+    "  cell 00 big-a ; as A\n"
+    "  cell 01 volume-bar-3\n"
+    "\n"
+    "Line 1 is what paint knows the font by. Empty lines, and lines that begin with ;,\n"
+    "are passed over in drawings and tables.\n" STATUS("the drawings are bad or were refused", CANNOT_WRITE);
+
 static const char on_show[] =
     "usage: dirgeflint show FONT.hex [CELL ..] [-o DRAWING.txt]\n"
     "\n"
@@ -92,7 +124,8 @@ static const char on_paint[] =
     "character a dot: space video, . black, : blue, + green, = cyan, * red,\n"
     "% magenta, @ yellow, # white. In a picture video is grey.\n"
     "\n"
-    "  --font F    the font's text, as dirgeflint font makes it\n"
+    "  --font F    the font's text, as dirgeflint font or pack makes it\n"
+    "  --table T   the table that dirgeflint pack made with it, for names of glyphs\n"
     "  --mode M    0 or 1 characters only, 2 in boxes (default), 3 on a full screen\n"
     "  --colour C  the background before the first space, and outside in mode 3:\n"
     "              " COLOURS "\n"
@@ -112,11 +145,12 @@ static const char on_paint[] =
     "  space blue                 ; an empty cell; background from here on\n"
     "  character 13 white         ; cell 13\n"
     "  character 18 yellow blink\n"
+    "  character big-a white      ; the glyph of this name, by the table\n"
     "  return 2 4                 ; a new row: size 1 to 4, spacing 0, 4, 8 or 12\n"
     "  0x0DE                      ; a word as it is, 0 to 1023\n"
     "  end\n"
     "\n"
-    "A real chip may show it otherwise: " WHERE ".\n" STATUS("an option or the text was refused, or the screen is bad", CANNOT_WRITE);
+    "A real chip may show it otherwise: " WHERE ".\n" STATUS("an option or the text was refused, or a file is bad", CANNOT_WRITE);
 
 static const char on_play[] =
     "usage: dirgeflint play EVENTS [-o WAVE.vcd]\n"
@@ -155,8 +189,8 @@ static const struct topic {
     const char *command;
     const char *text;
 } topics[] = {
-    { "check", on_check }, { "font", on_font },   { "show", on_show }, { "paint", on_paint },
-    { "play", on_play },   { "pulse", on_pulse }, { "help", on_all },
+    { "check", on_check }, { "font", on_font }, { "pack", on_pack },   { "show", on_show },
+    { "paint", on_paint }, { "play", on_play }, { "pulse", on_pulse }, { "help", on_all },
 };
 
 int help_on(const char *command)

@@ -10,9 +10,8 @@ static const struct command {
     const char *name;
     int (*run)(int count, char **words);
 } commands[] = {
-    { "check", check_command }, { "font", font_command },   { "show", show_command }, { "paint", paint_command },
-    { "play", play_command },   { "pulse", pulse_command }, { "help", help_command }, { "--help", help_command },
-    { "-h", help_command },
+    { "check", check_command }, { "font", font_command }, { "pack", pack_command },   { "show", show_command }, { "paint", paint_command },
+    { "play", play_command },   { "pulse", pulse_command }, { "help", help_command }, { "--help", help_command }, { "-h", help_command },
 };
 
 static int print_version(int count, char **words)
@@ -28,7 +27,7 @@ static int run(int count, char **words)
 {
     char room[SHOWN];
     if (count < 2)
-        return wrong_usage(NULL, "a command has to follow: check, font, show, paint, play, pulse or help");
+        return wrong_usage(NULL, "a command has to follow: check, font, pack, show, paint, play, pulse or help");
     if (strcmp(words[1], "--version") == 0)
         return print_version(count - 2, words + 2);
     for (size_t i = 0; i < sizeof commands / sizeof commands[0]; i++)

@@ -15,13 +15,14 @@
 
 enum { MOST_LINKS = 40, MOST_PATH = 4096 };
 
-/* What a signal has to remove: there is one output at a time. */
-static char *volatile unfinished;
+/* What a signal has to remove. */
+static char *volatile unfinished[MOST_OUTPUTS];
 
 static void remove_unfinished(int signal_number)
 {
-    if (unfinished != NULL)
-        unlink(unfinished);
+    for (int i = 0; i < MOST_OUTPUTS; i++)
+        if (unfinished[i] != NULL)
+            unlink(unfinished[i]);
     signal(signal_number, SIG_DFL);
     raise(signal_number);
 }
@@ -49,14 +50,20 @@ bool is_standard_output(const char *path)
     return path == NULL || strcmp(path, "-") == 0 || strcmp(path, "/dev/stdout") == 0;
 }
 
-int judge_output(const char *command, const char *path, const char *input)
+static bool is_same(const struct stat *one, const struct stat *other)
 {
+    return one->st_dev == other->st_dev && one->st_ino == other->st_ino;
+}
+
+int judge_output(const char *command, const struct option *option, const char *input)
+{
+    const char *path = option->value;
     struct stat to, from;
     if (path == NULL || strcmp(path, "-") == 0 || stat(path, &to) == -1 || !S_ISREG(to.st_mode))
         return DONE;
     if ((is_standard(input) ? fstat(STDIN_FILENO, &from) : stat(input, &from)) == -1)
         return DONE;
-    return to.st_dev == from.st_dev && to.st_ino == from.st_ino ? wrong_output(command, path) : DONE;
+    return is_same(&to, &from) ? wrong_output(command, option->name, path) : DONE;
 }
 
 static const char *after_last_slash(const char *path)
@@ -98,6 +105,48 @@ static char *follow_links(char *path)
     return NULL;
 }
 
+/* What is known of the folder that a file of this path is in. */
+static bool look_at_folder(const char *path, struct stat *folder)
+{
+    char *name = beside(path, ".");
+    bool found = name != NULL && stat(name, folder) == 0;
+    free(name);
+    return found;
+}
+
+/* Whether two paths, which end in no link, name one file, be it there or not. */
+static bool is_one_name(const char *one, const char *other)
+{
+    struct stat of_one, of_other;
+    return strcmp(after_last_slash(one), after_last_slash(other)) == 0 && look_at_folder(one, &of_one) && look_at_folder(other, &of_other) &&
+           is_same(&of_one, &of_other);
+}
+
+/* Whether two paths lead to one regular file, or would, there being none yet. */
+static bool is_one_file(const char *one, const char *other)
+{
+    struct stat of_one, of_other;
+    bool one_exists = stat(one, &of_one) == 0, other_exists = stat(other, &of_other) == 0;
+    if (one_exists || other_exists)
+        return one_exists && other_exists && S_ISREG(of_one.st_mode) && is_same(&of_one, &of_other);
+    char *one_end = follow_links(beside("", one)), *other_end = follow_links(beside("", other));
+    bool same = one_end != NULL && other_end != NULL && is_one_name(one_end, other_end);
+    free(one_end);
+    free(other_end);
+    return same;
+}
+
+int judge_outputs(const char *command, const struct option *one, const struct option *other)
+{
+    if (other->value == NULL)
+        return DONE;
+    if (is_standard_output(one->value) && is_standard_output(other->value))
+        return wrong_usage(command, "%s and %s cannot both go to standard output: name a file for one", one->name, other->name);
+    if (!is_standard_output(one->value) && is_one_file(one->value, other->value))
+        return wrong_usage(command, "%s and %s name one file: name two", one->name, other->name);
+    return DONE;
+}
+
 static mode_t usual_mode(void)
 {
     mode_t mask = umask(0);
@@ -116,7 +165,7 @@ static bool keep_permissions(int file, const struct stat *old)
 /* Opens the temporary file, named already, for what is to replace old, if there is such a file. */
 static FILE *open_temporary(char *temporary, const struct stat *old)
 {
-    unfinished = temporary; /* before there is such a file, so that no moment is left in which a signal would miss it */
+    unfinished[unfinished[0] == NULL ? 0 : 1] = temporary; /* before there is such a file, so that no moment is left in which a signal would miss it */
     int file = mkstemp(temporary);
     if (file == -1)
         return NULL;
@@ -132,7 +181,9 @@ static FILE *open_temporary(char *temporary, const struct stat *old)
 
 static void forget(struct output *output)
 {
-    unfinished = NULL;
+    for (int i = 0; i < MOST_OUTPUTS; i++)
+        if (unfinished[i] == output->temporary)
+            unfinished[i] = NULL;
     free(output->target);
     free(output->temporary);
 }
@@ -189,23 +240,37 @@ static bool close_stream(FILE *stream)
     return !failed;
 }
 
-/* Puts the temporary file, if there is one, in its place. */
-static bool replace_target(const struct output *output)
+/* Ends the writing; of standard output finish_output tells. */
+static int end_writing(const struct output *output, int status)
 {
-    return output->target == NULL || rename(output->temporary, output->target) == 0;
+    if (output->stream == stdout)
+        return is_printed() || status != DONE ? status : TROUBLE;
+    return close_stream(output->stream) || status != DONE ? status : file_trouble(output->name, "written");
+}
+
+/* Puts the temporary file, if there is one, in its place, or removes it. */
+static int settle(struct output *output, int status)
+{
+    if (output->temporary != NULL && status == DONE && rename(output->temporary, output->target) == -1)
+        status = file_trouble(output->name, "written");
+    if (output->temporary != NULL && status != DONE)
+        unlink(output->temporary);
+    forget(output);
+    return status;
+}
+
+int close_outputs(struct output outputs[], size_t count, int status)
+{
+    for (size_t i = 0; i < count; i++)
+        status = end_writing(&outputs[i], status);
+    for (size_t i = 0; i < count; i++)
+        status = settle(&outputs[i], status);
+    return status;
 }
 
 int close_output(struct output *output, int status)
 {
-    if (output->stream == stdout)
-        return status; /* finish_output looks at it */
-    bool written = close_stream(output->stream);
-    if (status == DONE && (!written || !replace_target(output)))
-        status = file_trouble(output->name, "written");
-    if (status != DONE && output->temporary != NULL)
-        unlink(output->temporary);
-    forget(output);
-    return status;
+    return close_outputs(output, 1, status);
 }
 
 int finish_output(int status)

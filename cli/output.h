@@ -5,6 +5,8 @@
 #include <stdbool.h>
 #include <stdio.h>
 
+#include "options.h"
+
 struct output {
     FILE *stream;
     const char *name; /* for messages */
@@ -15,16 +17,21 @@ struct output {
 /* Standard output is what no path, - and /dev/stdout name. */
 bool is_standard_output(const char *path);
 
-/* Wrong usage, for which it gives the status, if the path leads to the regular file that the input is: it would be lost. */
-int judge_output(const char *command, const char *path, const char *input);
+/* Wrong usage, for which it gives the status, if the option's file is the regular file that the input is: it would be lost. */
+int judge_output(const char *command, const struct option *option, const char *input);
+
+/* Wrong usage, too, if the two options name one regular file, be it there or not, or both name standard output. */
+int judge_outputs(const char *command, const struct option *one, const struct option *other);
 
 /* Opens a file to write to its stream. False, and a message, if it cannot be written. */
 bool open_output(const char *path, struct output *output);
 
 /*
- * Puts the file in its place if the work's status is DONE, and gives the status that comes of it. Else, or if writing failed, of which a
- * message tells, nothing is left of the file.
+ * Puts the files in their places if the work's status is DONE, and gives the status that comes of it. Else, or if writing failed, of which a
+ * message tells, nothing is left of them: all are whole before any is put in its place.
  */
+enum { MOST_OUTPUTS = 2 }; /* open at a time */
+int close_outputs(struct output outputs[], size_t count, int status);
 int close_output(struct output *output, int status);
 
 /* Whether all that standard output was given so far got there. If not, finish_output tells. */

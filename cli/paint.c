@@ -13,7 +13,7 @@
 #include "screen.h"
 
 /* The options with numbers come first: of several that are refused the first is told. */
-enum { MODE, COLOUR, H, V, RATIO, FREQUENCY, FRAME, WIDTH, LINES, NUMBERS, FONT = NUMBERS, OFF, TEXT, OUTPUT, OPTIONS };
+enum { MODE, COLOUR, H, V, RATIO, FREQUENCY, FRAME, WIDTH, LINES, NUMBERS, FONT = NUMBERS, TABLE, OFF, TEXT, OUTPUT, OPTIONS };
 
 static const uint32_t usual[NUMBERS] = { [MODE] = 2 };
 
@@ -107,12 +107,23 @@ static int paint_scene(const struct scene *scene, struct picture *picture, const
     return status;
 }
 
-/* Reads both files, so that what is wrong with either is told at once. */
-static int read_scene(const char *screen, const char *font_path, struct font *font, struct scene *scene)
+static int greater(int one, int other)
 {
-    int of_font = load_font(font_path, false, font), of_screen = read_screen(screen, scene->words);
+    return one > other ? one : other;
+}
+
+/* Reads all files, so that what is wrong with any is told at once; but without its table a screen's names say nothing. */
+static int read_scene(const char *screen, const struct option options[OPTIONS], struct font *font, struct scene *scene)
+{
+    static struct table table;
+    const char *table_path = options[TABLE].value;
+    int status = load_font(options[FONT].value, false, font), of_table = table_path == NULL ? DONE : read_table(table_path, &table);
+    if (table_path != NULL && status == DONE && of_table == DONE)
+        status = judge_sum(&table, font->rows);
+    if (of_table == DONE)
+        status = greater(status, read_screen(screen, table_path == NULL ? NULL : &table, scene->words));
     scene->font = font->rows;
-    return of_font > of_screen ? of_font : of_screen;
+    return greater(status, of_table);
 }
 
 /* A width or lines that are not given cannot be as many as the cells ask for. */
@@ -124,24 +135,28 @@ static void warn_of_reach(const char *file, const struct scene *scene, const str
         warn(file, "the cells reach %" PRIu64 " dots by %" PRIu64 " lines; at most %d by %d are painted", reach.dots, reach.lines, (int)MOST, (int)MOST_LINES);
 }
 
-/* The output may be neither of the files that are read. */
-static int judge_files(const char *screen, const char *font, const char *output)
+/* The output may be none of the files that are read, and standard input only one of them. */
+static int judge_files(const char *screen, const struct option options[OPTIONS])
 {
-    int status = judge_output("paint", output, screen);
-    return status == DONE ? judge_output("paint", output, font) : status;
+    const char *inputs[] = { screen, options[FONT].value, options[TABLE].value };
+    int status = DONE, standard = 0;
+    for (size_t i = 0; i < sizeof inputs / sizeof inputs[0] && inputs[i] != NULL; i++)
+        standard += is_standard(inputs[i]);
+    if (standard > 1)
+        return wrong_usage("paint", "standard input can be only one of screen, font and table");
+    for (size_t i = 0; i < sizeof inputs / sizeof inputs[0] && inputs[i] != NULL && status == DONE; i++)
+        status = judge_output("paint", &options[OUTPUT], inputs[i]);
+    return status;
 }
 
 /* What can be seen to be wrong before any file is read. */
 static int judge_usage(const char *screen, const struct option options[OPTIONS], uint32_t numbers[NUMBERS])
 {
-    const char *font = options[FONT].value;
-    if (font == NULL)
+    if (options[FONT].value == NULL)
         return wrong_usage("paint", "paint needs --font FONT.hex");
-    if (is_standard(screen) && is_standard(font))
-        return wrong_usage("paint", "standard input can be the screen or the font, not both");
     int status = read_numbers(options, numbers);
     if (status == DONE)
-        status = judge_files(screen, font, options[OUTPUT].value);
+        status = judge_files(screen, options);
     return status == DONE ? judge_numbers(options, numbers) : status;
 }
 
@@ -151,8 +166,8 @@ int paint_command(int count, char **words)
         [MODE] = { "--mode", true, NULL }, [COLOUR] = { "--colour", true, NULL }, [H] = { "--h", true, NULL },
         [V] = { "--v", true, NULL }, [RATIO] = { "--ratio", true, NULL }, [FREQUENCY] = { "--frequency", true, NULL },
         [FRAME] = { "--frame", true, NULL }, [WIDTH] = { "--width", true, NULL }, [LINES] = { "--lines", true, NULL },
-        [FONT] = { "--font", true, NULL }, [OFF] = { "--off", false, NULL }, [TEXT] = { "--text", false, NULL },
-        [OUTPUT] = { "-o", true, NULL },
+        [FONT] = { "--font", true, NULL }, [TABLE] = { "--table", true, NULL }, [OFF] = { "--off", false, NULL },
+        [TEXT] = { "--text", false, NULL }, [OUTPUT] = { "-o", true, NULL },
     };
     struct usage usage = { "paint", "a SCREEN, or -", 1, 1, options };
     uint32_t numbers[NUMBERS];
@@ -165,7 +180,7 @@ int paint_command(int count, char **words)
     struct font font;
     struct scene scene = { .settings = settings_of(numbers, options[OFF].value == NULL), .frame = numbers[FRAME] };
     struct picture picture = { numbers[WIDTH], numbers[LINES], NULL };
-    status = read_scene(words[0], options[FONT].value, &font, &scene);
+    status = read_scene(words[0], options, &font, &scene);
     if (status != DONE)
         return status;
     warn_of_reach(input_name(words[0]), &scene, &picture);

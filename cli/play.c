@@ -105,7 +105,7 @@ int play_command(int count, char **words)
     if (!read_options(&usage, &count, words, &status))
         return status;
     const char *path = options[0].value;
-    status = judge_output("play", path, words[0]);
+    status = judge_output("play", &options[0], words[0]);
     if (status != DONE)
         return status;
     struct player player = { .period = 1, .lines = path != NULL && is_standard_output(path) ? stderr : stdout };

@@ -45,10 +45,10 @@ int wrong_usage(const char *command, const char *format, ...)
     return end_usage(command);
 }
 
-int wrong_output(const char *command, const char *file)
+int wrong_output(const char *command, const char *option, const char *file)
 {
     begin(PROGRAM, 0);
-    fputs("-o ", stderr);
+    fprintf(stderr, "%s ", option);
     write_name(stderr, file);
     fputs(" is also an input: name another file", stderr);
     return end_usage(command);

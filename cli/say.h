@@ -28,7 +28,7 @@ void write_name(FILE *stream, const char *file);
 
 /* Each of these gives back the status that goes with what it says. Line 0 is no line. */
 int wrong_usage(const char *command, const char *format, ...) LIKE_PRINTF(2, 3);
-int wrong_output(const char *command, const char *file); /* an output that is an input, too */
+int wrong_output(const char *command, const char *option, const char *file); /* an output that is an input, too */
 int bad_input(const char *file, size_t line, const char *format, ...) LIKE_PRINTF(3, 4);
 int refused(const char *file, size_t line, dirgeflint_answer answer, const char *format, ...) LIKE_PRINTF(4, 5);
 

@@ -27,13 +27,29 @@ static int colour_part(const char *file, const struct statement *line, size_t pl
     return wrong_part(file, line, place, "no colour: " COLOURS);
 }
 
-static int character_line(const char *file, const struct statement *line, uint16_t *word)
+/* A cell by its number, which begins with a digit, or by the name of a glyph that is in it. */
+static int cell_part(const char *file, const struct statement *line, const struct table *table, uint32_t *cell)
+{
+    char room[SHOWN];
+    struct slice word = line->words[1];
+    bool is_number = word.start[0] >= '0' && word.start[0] <= '9';
+    if (is_number && read_number_within(word, 0, DIRGEFLINT_CELLS - 1, cell))
+        return DONE;
+    if (is_number)
+        return wrong_part(file, line, 1, "no cell: cells are 0 to 61" IN_FORM);
+    if (table == NULL)
+        return bad_input(file, line->line, "%s is no cell: cells are 0 to 61" IN_FORM "; for the name of a glyph give its table: --table TABLE.txt",
+                         shown_name(word, room));
+    return find_cell(table, file, line->line, word, cell);
+}
+
+static int character_line(const char *file, const struct statement *line, const struct table *table, uint16_t *word)
 {
     uint32_t cell, colour;
     if (line->count < 3 || line->count > 4 || (line->count == 4 && !slice_is(line->words[3], "blink")))
         return wrong_form(file, line, "character CELL COLOUR, and then blink or nothing");
-    if (!read_number_within(line->words[1], 0, DIRGEFLINT_CELLS - 1, &cell))
-        return wrong_part(file, line, 1, "no cell: cells are 0 to 61" IN_FORM);
+    if (cell_part(file, line, table, &cell) != DONE)
+        return BAD;
     if (colour_part(file, line, 2, &colour) != DONE)
         return BAD;
     *word = dirgeflint_character(cell, colour, line->count == 4);
@@ -85,11 +101,11 @@ static int number_line(const char *file, const struct statement *line, uint16_t 
     return DONE;
 }
 
-static int screen_line(const char *file, const struct statement *line, uint16_t *word)
+static int screen_line(const char *file, const struct statement *line, const struct table *table, uint16_t *word)
 {
     struct slice kind = line->words[0];
     if (slice_is(kind, "character"))
-        return character_line(file, line, word);
+        return character_line(file, line, table, word);
     if (slice_is(kind, "space"))
         return space_line(file, line, word);
     if (slice_is(kind, "return"))
@@ -99,7 +115,7 @@ static int screen_line(const char *file, const struct statement *line, uint16_t 
     return number_line(file, line, word);
 }
 
-static int screen_lines(const struct input *input, uint16_t words[DIRGEFLINT_WORDS])
+static int screen_lines(const struct input *input, const struct table *table, uint16_t words[DIRGEFLINT_WORDS])
 {
     struct lines lines = { input->text, 0 };
     struct statement line;
@@ -107,7 +123,7 @@ static int screen_lines(const struct input *input, uint16_t words[DIRGEFLINT_WOR
     while (next_statement(&lines, &line)) {
         if (count == DIRGEFLINT_WORDS)
             return bad_input(input->name, line.line, "word 65: a screen has 64 words; leave out what is too much");
-        int status = screen_line(input->name, &line, &words[count++]);
+        int status = screen_line(input->name, &line, table, &words[count++]);
         if (status != DONE)
             return status;
     }
@@ -118,14 +134,14 @@ static int screen_lines(const struct input *input, uint16_t words[DIRGEFLINT_WOR
     return DONE;
 }
 
-int read_screen(const char *path, uint16_t words[DIRGEFLINT_WORDS])
+int read_screen(const char *path, const struct table *table, uint16_t words[DIRGEFLINT_WORDS])
 {
     struct input input;
     if (!read_input(path, SIZE_MAX, &input))
         return TROUBLE;
     int status = judge_mark(&input);
     if (status == DONE)
-        status = screen_lines(&input, words);
+        status = screen_lines(&input, table, words);
     free_input(&input);
     return status;
 }

@@ -2,9 +2,9 @@
 #ifndef SCREEN_H
 #define SCREEN_H
 
-#include "dirgeflint.h"
+#include "table.h"
 
-/* Reads a screen; gives the status. Words that the file does not give are ends. */
-int read_screen(const char *path, uint16_t words[DIRGEFLINT_WORDS]);
+/* Reads a screen, with the table of the glyphs that it may name, or NULL; gives the status. Words that the file does not give are ends. */
+int read_screen(const char *path, const struct table *table, uint16_t words[DIRGEFLINT_WORDS]);
 
 #endif

@@ -49,7 +49,7 @@ int show_command(int count, char **words)
         return status;
     status = wrong_cell(words + 1, count - 1);
     if (status == DONE)
-        status = judge_output("show", options[0].value, words[0]);
+        status = judge_output("show", &options[0], words[0]);
     if (status == DONE)
         status = load_font(words[0], false, &font);
     if (status != DONE)
