@@ -1,0 +1,1 @@
+// Theorems alone: what the cells that the packer gives are worth.
