@@ -159,6 +159,26 @@ static void image_to_font(void)
     dirgeflint_image_to_font(image, sizeof image, font, 1116);
 }
 
+static uint16_t glyphs[257 * 18];
+static size_t glyphs_length;
+static uint8_t cells[256];
+static void pack(void)
+{
+    dirgeflint_pack(glyphs, glyphs_length, font, 1116, cells, sizeof cells);
+}
+
+/* 0 to 256 glyphs of so many patterns, and 256 with a row above 4095 at their end. */
+static void packs(uint16_t patterns)
+{
+    for (glyphs_length = 0; glyphs_length < sizeof glyphs / sizeof glyphs[0]; glyphs_length += 18) {
+        glyphs[glyphs_length + 17] = (uint16_t)(glyphs_length / 18 % patterns);
+        measure(pack);
+    }
+    glyphs_length = 256 * 18;
+    glyphs[glyphs_length - 1] = 4096;
+    measure(pack);
+}
+
 int main(void)
 {
     measure(none);
@@ -201,5 +221,9 @@ int main(void)
     report("dirgeflint_hex_read");
     measure(image_to_font);
     report("dirgeflint_image_to_font");
+    packs(1);
+    packs(62);
+    packs(256);
+    report("dirgeflint_pack");
     return 0;
 }
