@@ -258,8 +258,6 @@ static void image_to_font(const face *f, int size)
     seen = font[7];
 }
 
-enum { MOST_GLYPHS = 256, MOST_PATTERNS = 62, GLYPH_ROWS = 18 };
-
 static uint32_t by_chance(uint32_t below)
 {
     static uint32_t state = 1;
@@ -273,21 +271,22 @@ static uint32_t by_chance(uint32_t below)
  */
 static const uint16_t *drawn(int glyphs, int patterns, bool alike)
 {
-    static uint16_t rows[MOST_GLYPHS * GLYPH_ROWS];
+    enum { ROWS = DIRGEFLINT_CELL_ROWS };
+    static uint16_t rows[DIRGEFLINT_MOST_GLYPHS * ROWS];
     static int made_glyphs, made_patterns;
     static bool made_alike;
     if (made_glyphs == glyphs && made_patterns == patterns && made_alike == alike)
         return rows;
     for (int i = 0; i < glyphs; i++) {
-        uint16_t *glyph = rows + i * GLYPH_ROWS;
+        uint16_t *glyph = rows + i * ROWS;
         if (i >= patterns)
-            memcpy(glyph, rows + by_chance((uint32_t)patterns) * GLYPH_ROWS, GLYPH_ROWS * sizeof *rows);
+            memcpy(glyph, rows + by_chance((uint32_t)patterns) * ROWS, ROWS * sizeof *rows);
         else if (alike && i > 0) {
-            memcpy(glyph, rows, GLYPH_ROWS * sizeof *rows);
-            glyph[GLYPH_ROWS - 1] ^= (uint16_t)i;
+            memcpy(glyph, rows, ROWS * sizeof *rows);
+            glyph[ROWS - 1] ^= (uint16_t)i;
         } else
-            for (int row = 0; row < GLYPH_ROWS; row++)
-                glyph[row] = (uint16_t)by_chance(4096);
+            for (int row = 0; row < ROWS; row++)
+                glyph[row] = (uint16_t)by_chance(DIRGEFLINT_MOST_ROW + 1);
     }
     made_glyphs = glyphs;
     made_patterns = patterns;
@@ -298,26 +297,26 @@ static const uint16_t *drawn(int glyphs, int patterns, bool alike)
 static void packed(const face *f, int glyphs, int patterns, bool alike)
 {
     static uint16_t font[1116];
-    static uint8_t cells[MOST_GLYPHS];
+    static uint8_t cells[DIRGEFLINT_MOST_GLYPHS];
     const uint16_t *rows = drawn(glyphs, patterns, alike);
-    seen = f->pack(rows, (size_t)glyphs * GLYPH_ROWS, font, 1116, cells, MOST_GLYPHS).value;
+    seen = f->pack(rows, (size_t)glyphs * DIRGEFLINT_CELL_ROWS, font, 1116, cells, DIRGEFLINT_MOST_GLYPHS).value;
 }
 
 /* As many glyphs as fit a call, of `size` patterns. */
 static void pack(const face *f, int size)
 {
-    packed(f, MOST_GLYPHS, size, false);
+    packed(f, DIRGEFLINT_MOST_GLYPHS, size, false);
 }
 
 static void pack_last_row(const face *f, int size)
 {
-    packed(f, MOST_GLYPHS, size, true);
+    packed(f, DIRGEFLINT_MOST_GLYPHS, size, true);
 }
 
 /* `size` glyphs, all different as far as there are cells for them. */
 static void pack_glyphs(const face *f, int size)
 {
-    packed(f, size, size < MOST_PATTERNS ? size : MOST_PATTERNS, false);
+    packed(f, size, size < DIRGEFLINT_CELLS ? size : DIRGEFLINT_CELLS, false);
 }
 
 static const shape shapes[] = {
@@ -344,10 +343,10 @@ static const shape shapes[] = {
     { "hex", "a font's text written", hex_write, 0, "hex_write" },
     { "hex", "a font's text read", hex_read, 0, "hex_read" },
     { "hex", "image to font", image_to_font, 0, "image_to_font" },
-    { "pack", "256 glyphs of 62 patterns", pack, MOST_PATTERNS, "pack" },
-    { "pack", "256 glyphs of 62 last rows, else equal", pack_last_row, MOST_PATTERNS, "pack" },
+    { "pack", "256 glyphs of 62 patterns", pack, DIRGEFLINT_CELLS, "pack" },
+    { "pack", "256 glyphs of 62 last rows, else equal", pack_last_row, DIRGEFLINT_CELLS, "pack" },
     { "pack", "256 equal glyphs", pack, 1, "pack" },
-    { "pack", "62 different glyphs", pack_glyphs, MOST_PATTERNS, "pack" },
+    { "pack", "62 different glyphs", pack_glyphs, DIRGEFLINT_CELLS, "pack" },
     { "pack", "one glyph", pack_glyphs, 1, "pack" },
     { NULL, NULL, NULL, 0, NULL },
 };
