@@ -517,9 +517,9 @@ static size_t fast_slot(fast_glyph glyph)
 
 /*
  * A table of 256 slots finds the pattern: for each, the row where the pattern's first glyph starts, and its cell. An empty
- * slot has row 0 and cell 0, as if the first glyph were there: any other glyph differs from that one, so that most glyphs
- * are looked up by one compare, and only where it fails is an empty slot told from a full one. A row's range is tested
- * where a pattern is new, as every other glyph agrees with one that was tested.
+ * slot has row 0 and cell 0, those of the first glyph, so it answers for that one, which is never stored, and for no other.
+ * So most glyphs are looked up by one compare, and only where it fails is an empty slot told from a full one. A row's range
+ * is tested where a pattern is new, as every other glyph agrees with one that was tested.
  *
  * Tried as well: patterns kept aside, chains of patterns, and a pass over all rows for their range, which take up to a
  * tenth more here and a tenth less there; a look at the glyph before, a tenth less if all are equal and a quarter more if
@@ -532,14 +532,10 @@ static dirgeflint_answer fast_pack(const uint16_t *glyphs, size_t glyphs_length,
     uint16_t starts[256] = { 0 }, firsts[62];
     uint8_t cell[256] = { 0 }, found[256];
     const uint16_t *rows = glyphs;
-    size_t count = glyphs_length / 18, used = 0, home = 0;
-    if (glyphs_length % 18 != 0 || count > 256)
+    size_t count = glyphs_length / 18, used = 0;
+    if (glyphs_length % 18 != 0 || count > 256 || (count > 0 && fast_too_wide(fast_take(rows))))
         return fast_answer(16, 0, 0);
     if (count > 0) {
-        fast_glyph glyph = fast_take(rows);
-        if (fast_too_wide(glyph))
-            return fast_answer(16, 0, 0);
-        home = fast_slot(glyph);
         firsts[used++] = 0;
         found[0] = 0;
     }
@@ -548,7 +544,7 @@ static dirgeflint_answer fast_pack(const uint16_t *glyphs, size_t glyphs_length,
         fast_glyph glyph = fast_take(rows);
         size_t slot = fast_slot(glyph);
         while (!fast_agree(glyph, glyphs + starts[slot])) {
-            if (starts[slot] == 0 && slot != home) {
+            if (starts[slot] == 0) {
                 if (fast_too_wide(glyph))
                     return fast_answer(16, 0, 0);
                 if (used == 62)
