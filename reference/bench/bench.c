@@ -30,7 +30,8 @@ static const double ROUND = 2e6;
     each(dac_reset) each(dac_write_low) each(dac_write_high) each(dac_play) \
     each(port_reset) each(port_write_address) each(port_write_attribute) each(port_write_character) \
     each(paint) \
-    each(hex_read) each(hex_write) each(image_to_font)
+    each(hex_read) each(hex_write) each(image_to_font) \
+    each(pack)
 
 #define MEMBER(name) __typeof__(dirgeflint_##name) *name;
 typedef struct face {
@@ -93,13 +94,21 @@ static dirgeflint_answer laid_font(const uint8_t *from, size_t from_length, uint
     return accepted;
 }
 
+static dirgeflint_answer laid_pack(const uint16_t *glyphs, size_t glyphs_length, uint16_t *font, size_t font_length,
+                                   uint8_t *cells, size_t cells_length)
+{
+    (void)glyphs, (void)font, (void)font_length, (void)cells, (void)cells_length;
+    memset(room, 0, 1116 * sizeof *font + glyphs_length / 18);
+    return accepted;
+}
+
 #define BASELINE(name) fast_##name,
 enum { LIBRARY, OTHER, LAID, SIDES };
 static face sides[SIDES] = {
     { CALLS(AT_HAND) },
     { CALLS(BASELINE) },
     { .dac_play = laid_play, .paint = laid_paint,
-      .hex_read = laid_read, .hex_write = laid_write, .image_to_font = laid_font },
+      .hex_read = laid_read, .hex_write = laid_write, .image_to_font = laid_font, .pack = laid_pack },
 };
 
 #endif
@@ -249,6 +258,67 @@ static void image_to_font(const face *f, int size)
     seen = font[7];
 }
 
+static uint32_t by_chance(uint32_t below)
+{
+    static uint32_t state = 1;
+    state = state * 1664525 + 1013904223;
+    return (state >> 16) % below;
+}
+
+/*
+ * So many glyphs: each pattern once, then any of them. Patterns that are alike differ in their last row only. They are made
+ * if others were asked for before, and so not while a call is timed.
+ */
+static const uint16_t *drawn(int glyphs, int patterns, bool alike)
+{
+    enum { ROWS = DIRGEFLINT_CELL_ROWS };
+    static uint16_t rows[DIRGEFLINT_MOST_GLYPHS * ROWS];
+    static int made_glyphs, made_patterns;
+    static bool made_alike;
+    if (made_glyphs == glyphs && made_patterns == patterns && made_alike == alike)
+        return rows;
+    for (int i = 0; i < glyphs; i++) {
+        uint16_t *glyph = rows + i * ROWS;
+        if (i >= patterns)
+            memcpy(glyph, rows + by_chance((uint32_t)patterns) * ROWS, ROWS * sizeof *rows);
+        else if (alike && i > 0) {
+            memcpy(glyph, rows, ROWS * sizeof *rows);
+            glyph[ROWS - 1] ^= (uint16_t)i;
+        } else
+            for (int row = 0; row < ROWS; row++)
+                glyph[row] = (uint16_t)by_chance(DIRGEFLINT_MOST_ROW + 1);
+    }
+    made_glyphs = glyphs;
+    made_patterns = patterns;
+    made_alike = alike;
+    return rows;
+}
+
+static void packed(const face *f, int glyphs, int patterns, bool alike)
+{
+    static uint16_t font[1116];
+    static uint8_t cells[DIRGEFLINT_MOST_GLYPHS];
+    const uint16_t *rows = drawn(glyphs, patterns, alike);
+    seen = f->pack(rows, (size_t)glyphs * DIRGEFLINT_CELL_ROWS, font, 1116, cells, DIRGEFLINT_MOST_GLYPHS).value;
+}
+
+/* As many glyphs as fit a call, of `size` patterns. */
+static void pack(const face *f, int size)
+{
+    packed(f, DIRGEFLINT_MOST_GLYPHS, size, false);
+}
+
+static void pack_last_row(const face *f, int size)
+{
+    packed(f, DIRGEFLINT_MOST_GLYPHS, size, true);
+}
+
+/* `size` glyphs, all different as far as there are cells for them. */
+static void pack_glyphs(const face *f, int size)
+{
+    packed(f, size, size < DIRGEFLINT_CELLS ? size : DIRGEFLINT_CELLS, false);
+}
+
 static const shape shapes[] = {
     { "pulse", "768 calls: each channel's period", pulse, 0, "pulse_level" },
     { "dac", "a period in one call", dac, PERIOD, "dac_play" },
@@ -273,6 +343,11 @@ static const shape shapes[] = {
     { "hex", "a font's text written", hex_write, 0, "hex_write" },
     { "hex", "a font's text read", hex_read, 0, "hex_read" },
     { "hex", "image to font", image_to_font, 0, "image_to_font" },
+    { "pack", "256 glyphs of 62 patterns", pack, DIRGEFLINT_CELLS, "pack" },
+    { "pack", "256 glyphs of 62 last rows, else equal", pack_last_row, DIRGEFLINT_CELLS, "pack" },
+    { "pack", "256 equal glyphs", pack, 1, "pack" },
+    { "pack", "62 different glyphs", pack_glyphs, DIRGEFLINT_CELLS, "pack" },
+    { "pack", "one glyph", pack_glyphs, 1, "pack" },
     { NULL, NULL, NULL, 0, NULL },
 };
 
@@ -339,6 +414,14 @@ static const shape growth[] = {
     { "hex", "read, by data records", one_read, 32, "hex_read" },
     { "hex", "read, by data records", one_read, 128, "hex_read" },
     { "hex", "read, by data records", one_read, 512, "hex_read" },
+    { "pack", "pack 62 patterns, by glyphs", pack_glyphs, 62, "pack" },
+    { "pack", "pack 62 patterns, by glyphs", pack_glyphs, 128, "pack" },
+    { "pack", "pack 62 patterns, by glyphs", pack_glyphs, 192, "pack" },
+    { "pack", "pack 62 patterns, by glyphs", pack_glyphs, 256, "pack" },
+    { "pack", "pack 256 glyphs, by patterns", pack, 1, "pack" },
+    { "pack", "pack 256 glyphs, by patterns", pack, 16, "pack" },
+    { "pack", "pack 256 glyphs, by patterns", pack, 32, "pack" },
+    { "pack", "pack 256 glyphs, by patterns", pack, 62, "pack" },
     { NULL, NULL, NULL, 0, NULL },
 };
 
@@ -385,6 +468,12 @@ static dirgeflint_answer checked_image_to_font(const uint8_t *from, size_t from_
     return noted(checked->image_to_font(from, from_length, to, to_length));
 }
 
+static dirgeflint_answer checked_pack(const uint16_t *glyphs, size_t glyphs_length, uint16_t *font, size_t font_length,
+                                      uint8_t *cells, size_t cells_length)
+{
+    return noted(checked->pack(glyphs, glyphs_length, font, font_length, cells, cells_length));
+}
+
 /* Runs the shape once, not timed, through calls that note a refusal; a refused call would be timed for no work. */
 static void check(const shape *s, const face *f)
 {
@@ -395,6 +484,7 @@ static void check(const shape *s, const face *f)
     through.hex_read = checked_hex_read;
     through.hex_write = checked_hex_write;
     through.image_to_font = checked_image_to_font;
+    through.pack = checked_pack;
     checked = f;
     refused = 0;
     s->work(&through, s->size);

@@ -469,3 +469,99 @@ static dirgeflint_answer fast_image_to_font(const uint8_t *image, size_t image_l
     fast_turn(image, font);
     return fast_answer(0, 0, 0);
 }
+
+/* A glyph's rows: four words of four, and one of the last two. */
+typedef struct fast_glyph {
+    uint64_t words[5];
+} fast_glyph;
+
+static fast_glyph fast_take(const uint16_t *rows)
+{
+    fast_glyph glyph;
+    uint32_t last;
+    memcpy(glyph.words, rows, 32);
+    memcpy(&last, rows + 16, 4);
+    glyph.words[4] = last;
+    return glyph;
+}
+
+/* One word after the other: nearly always all five agree, and five jumps that are foreseen cost less than one for all. */
+static bool fast_agree(fast_glyph glyph, const uint16_t *rows)
+{
+    fast_glyph other = fast_take(rows);
+    return glyph.words[0] == other.words[0] && glyph.words[1] == other.words[1] && glyph.words[2] == other.words[2] &&
+           glyph.words[3] == other.words[3] && glyph.words[4] == other.words[4];
+}
+
+static bool fast_too_wide(fast_glyph glyph)
+{
+    uint64_t all = glyph.words[0] | glyph.words[1] | glyph.words[2] | glyph.words[3] | glyph.words[4];
+    return (all & 0xF000F000F000F000u) != 0;
+}
+
+static bool fast_any_too_wide(const uint16_t *rows, size_t glyphs)
+{
+    for (size_t i = 0; i < glyphs; i++)
+        if (fast_too_wide(fast_take(rows + 18 * i)))
+            return true;
+    return false;
+}
+
+/* Where the search for a glyph begins. Each word has a factor of its own, so that rows that repeat do not cancel out. */
+static size_t fast_slot(fast_glyph glyph)
+{
+    uint64_t even = glyph.words[0] + 8 * glyph.words[2];
+    uint64_t odd = glyph.words[1] + 8 * glyph.words[3] + 2 * glyph.words[4];
+    return (size_t)((even + 5 * odd) * 0x9E3779B97F4A7C15u >> 56);
+}
+
+/*
+ * A table of 256 slots finds the pattern: for each, the row where the pattern's first glyph starts, and its cell. An empty
+ * slot has row 0 and cell 0, those of the first glyph, so it answers for that one, which is never stored, and for no other.
+ * So most glyphs are looked up by one compare, and only where it fails is an empty slot told from a full one. A row's range
+ * is tested where a pattern is new, as every other glyph agrees with one that was tested.
+ *
+ * Tried as well: patterns kept aside, chains of patterns, and a pass over all rows for their range, which take up to a
+ * tenth more here and a tenth less there; a look at the glyph before, a tenth less if all are equal and a quarter more if
+ * not; all slots found first, a quarter more; memcmp of 36 bytes, twice as long; the hashes of all patterns compared in
+ * vectors, four times; every pattern compared in turn, by words up to 14 times, by memcmp 45 times.
+ */
+static dirgeflint_answer fast_pack(const uint16_t *glyphs, size_t glyphs_length, uint16_t *font, size_t font_length,
+                                   uint8_t *cells, size_t cells_length)
+{
+    uint16_t starts[256] = { 0 }, firsts[62];
+    uint8_t cell[256] = { 0 }, found[256];
+    const uint16_t *rows = glyphs;
+    size_t count = glyphs_length / 18, used = 0;
+    if (glyphs_length % 18 != 0 || count > 256 || (count > 0 && fast_too_wide(fast_take(rows))))
+        return fast_answer(16, 0, 0);
+    if (count > 0) {
+        firsts[used++] = 0;
+        found[0] = 0;
+    }
+    for (size_t i = 1; i < count; i++) {
+        rows += 18;
+        fast_glyph glyph = fast_take(rows);
+        size_t slot = fast_slot(glyph);
+        while (!fast_agree(glyph, glyphs + starts[slot])) {
+            if (starts[slot] == 0) {
+                if (fast_too_wide(glyph))
+                    return fast_answer(16, 0, 0);
+                if (used == 62)
+                    return fast_answer(fast_any_too_wide(rows, count - i) ? 16 : 17, 0, 0);
+                starts[slot] = firsts[used] = (uint16_t)(18 * i);
+                cell[slot] = (uint8_t)used++;
+                break;
+            }
+            slot = (slot + 37) & 255;
+        }
+        found[i] = cell[slot];
+    }
+    if (font_length < 1116 || cells_length < count)
+        return fast_answer(6, 0, 0);
+    memcpy(cells, found, count);
+    for (size_t i = 0; i < used; i++)
+        memcpy(font + 18 * i, glyphs + firsts[i], 36);
+    memset(font + 18 * used, 0, 36 * (62 - used));
+    return fast_answer(0, 0, (uint32_t)used);
+}

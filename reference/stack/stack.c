@@ -159,26 +159,24 @@ static void image_to_font(void)
     dirgeflint_image_to_font(image, sizeof image, font, 1116);
 }
 
-static uint16_t glyphs[256 * 18];
-static uint8_t cells[256];
+static uint16_t glyphs[257 * 18];
 static size_t glyphs_length;
+static uint8_t cells[256];
 static void pack(void)
 {
     dirgeflint_pack(glyphs, glyphs_length, font, 1116, cells, sizeof cells);
 }
 
-/* Glyphs that show so many patterns, the last of their rows being the last to differ. */
-static void sets(void)
+/* 0 to 256 glyphs of so many patterns, and 256 with a row above 4095 at their end. */
+static void packs(uint16_t patterns)
 {
-    static const uint16_t patterns[] = { 1, 2, 61, 62, 63, 256 };
-    for (size_t i = 0; i < sizeof patterns / sizeof patterns[0]; i++) {
-        for (uint16_t glyph = 0; glyph < 256; glyph++)
-            glyphs[18 * glyph + 17] = glyph % patterns[i];
-        for (size_t count = 0; count <= 256; count += 64) {
-            glyphs_length = 18 * count;
-            measure(pack);
-        }
+    for (glyphs_length = 0; glyphs_length < sizeof glyphs / sizeof glyphs[0]; glyphs_length += 18) {
+        glyphs[glyphs_length + 17] = (uint16_t)(glyphs_length / 18 % patterns);
+        measure(pack);
     }
+    glyphs_length = 256 * 18;
+    glyphs[glyphs_length - 1] = 4096;
+    measure(pack);
 }
 
 int main(void)
@@ -223,7 +221,9 @@ int main(void)
     report("dirgeflint_hex_read");
     measure(image_to_font);
     report("dirgeflint_image_to_font");
-    sets();
+    packs(1);
+    packs(62);
+    packs(256);
     report("dirgeflint_pack");
     return 0;
 }
