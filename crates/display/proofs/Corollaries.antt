@@ -5,7 +5,7 @@ use mathlib.Core.Path.{_≡_, refl, sym, ap, _∙_}
 use mathlib.Core.Bool.{Bool, true, false}
 use mathlib.Core.Logic.{_⊎_, inl, inr, ⊎-elim}
 use mathlib.Core.List.{List, [], _∷_, _++_, Forall₂, Forall₂·nil, Forall₂·cons}
-use Prim.Native.Nat.{ℕ, _-_, _*_, _/_, _<_, _≤_}
+use Prim.Native.Nat.{ℕ, _*_, _<_, _≤_}
 use native.Mathlib.Omega.{arith}
 use Rattle.laws.specs.Pick.{pick}
 use Rattle.laws.specs.Lines.{firstShown, holders}
@@ -115,6 +115,29 @@ pub same-line : (kinds kinds′ : List Kind) (dots dots′ : Drawn) (s : Setting
 unfolding dotOf
 same-line kinds kinds′ dots dots′ s frame line width alike =
     tabulate-same (width .0) _ _ (λ k lt. ap (λ (n : ℕ). pick (s .on) n 0) (alike-dot dots dots′ (viewOf s frame line) k (s .colour) (screenOf kinds s) (screenOf kinds′ s) alike))
+
+-- two kinds do the same, wherever the pen is: their cells are alike, the pen goes to one place, and reading goes on after both or neither
+pub record SameKind (dots dots′ : Drawn) (kd kd′ : Kind) : Type 0 where
+  pub cells : (x : Dots) (y : Lines) (size back : ℕ) → Forall₂ (Alike dots dots′) (kindCell x y size back kd) (kindCell x y size back kd′)
+  pub moves : (left : Dots) (p : Pen) → afterWord left kd p ≡ afterWord left kd′ p
+  pub goes : goesOn kd ≡ goesOn kd′
+
+module _ (dots dots′ : Drawn) where
+  alike-append : (cs cs′ ds ds′ : List Cell) → Forall₂ (Alike dots dots′) cs cs′ → Forall₂ (Alike dots dots′) ds ds′ → Forall₂ (Alike dots dots′) (cs ++ ds) (cs′ ++ ds′)
+  alike-append cs cs′ ds ds′ Forall₂·nil second = second
+  alike-append cs cs′ ds ds′ (Forall₂·cons {l₁ = es} {l₂ = es′} same first) second = Forall₂·cons same (alike-append es es′ ds ds′ first second)
+
+  alike-pick : (t : Bool) (ds ds′ : List Cell) → Forall₂ (Alike dots dots′) ds ds′ → Forall₂ (Alike dots dots′) (pick t ds []) (pick t ds′ [])
+  alike-pick true ds ds′ rest = rest
+  alike-pick false ds ds′ rest = Forall₂·nil
+
+  -- screens of kinds that do the same, one by one, have cells that are alike
+  pub alike-cells : (left : Dots) (p : Pen) (kinds kinds′ : List Kind) → Forall₂ (SameKind dots dots′) kinds kinds′ → Forall₂ (Alike dots dots′) (cellsFrom left kinds p) (cellsFrom left kinds′ p)
+  unfolding cellsFrom
+  alike-cells left p kinds kinds′ Forall₂·nil = Forall₂·nil
+  alike-cells left p kinds kinds′ (Forall₂·cons {a = kd} {b = kd′} {l₁ = ks} {l₂ = ks′} same rest) =
+      rw (same .goes, same .moves left p)
+      (alike-append _ _ _ _ (same .cells (p .x) (p .y) (p .size) (p .background)) (alike-pick (goesOn kd′) _ _ (alike-cells left (afterWord left kd′ p) ks ks′ rest)))
 
 -- no cell stands left of where rows start, and none above the pen
 module _ (v : View) (left : Dots) (k : ℕ) where
