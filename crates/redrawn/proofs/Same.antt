@@ -25,7 +25,7 @@ use Rattle.display.specs.Cells.{Shown, character, space, kindCell, afterWord, r
 use Rattle.display.specs.Painting.{firstDot, firstLine, lineOf, leftBy}
 use Rattle.display.proofs.Corollaries.{SameShown, Alike, SameKind, alike-cells, same-line}
 use Rattle.display.proofs.Sound.{reads-end, reads-space, reads-return, reads-character}
-use Rattle.redrawn.specs.Screen.{isItem, areItems, isScreen, marked, wordFor, wordsFor, inCell}
+use Rattle.redrawn.specs.Screen.{isItem, areItems, isScreen, marked, attributeFor, wordFor, wordsFor, inCell}
 use Rattle.redrawn.specs.Picture.{Shows, answerBy, SamePicture, SamePictures}
 
 -- cells that have the glyphs' rows have their dots
@@ -34,30 +34,44 @@ pub shows-rows : (glyphs : List ℕ) (n : ℕ) (font : List ℕ) (cell : ℕ →
 shows-rows glyphs n font cell whole there rows =
     record { whole = whole; there = λ g lt. omega (arith, there g lt); dots = λ g l j lt in-row in-column. ap (λ (row : ℕ). bitSet row j) (rows g l lt (omega arith)) }
 
--- the parts of a word, read back
-module _ (code m : ℕ) (mark : Bool) (in-code : code ≤ spaceCode) (in-colour : m ≤ mostColour) where
-  bit : pick mark 1 0 ≤ 1
-  bit = go mark
-    where
-      go : (b : Bool) → pick b 1 0 ≤ 1
-      go true = omega arith
-      go false = omega arith
+-- the parts of a word of this code and attribute, read back
+module _ (code t : ℕ) (in-code : code ≤ spaceCode) (in-bits : t ≤ 15) where
+  code-back : codeOf (wordOf code t) ≡ code
+  code-back = omega arith
 
-  code-back : codeOf (wordOf code (marked m mark)) ≡ code
-  code-back = omega (arith, bit)
+  colour-back : colourOf (wordOf code t) ≡ t / 2
+  colour-back = omega arith
 
-  colour-back : colourOf (wordOf code (marked m mark)) ≡ m
-  colour-back = omega (arith, bit)
+  mark-back : wordOf code t % 2 ≡ t % 2
+  mark-back = omega arith
 
-  mark-back : markOf (wordOf code (marked m mark)) ≡ mark
-  mark-back = go mark
-    where
-      go : (b : Bool) → markOf (wordOf code (marked m b)) ≡ b
-      go true = let odd : wordOf code (marked m true) % 2 ≡ 1 = omega arith in eq-eqb _ _ odd
-      go false = let even : wordOf code (marked m false) % 2 ≡ 0 = omega arith in ne-eqb _ _ (λ (z : wordOf code (marked m false) % 2 ≡ 1). omega arith)
+  size-back : sizeOf (wordOf code t) ≡ t / 4 + 1
+  size-back = omega arith
 
-return-back : (m q : ℕ) → m ≤ 3 → q ≤ 3 → (codeOf (wordOf returnCode (4 * m + q)) ≡ returnCode) × ((wordOf returnCode (4 * m + q) / 4 % 4 ≡ m) × (wordOf returnCode (4 * m + q) % 4 ≡ q))
-return-back m q in-size in-gap = (omega arith, (omega arith, omega arith))
+  spacing-back : spacingOf (wordOf code t) ≡ t % 4 * 4
+  spacing-back = omega arith
+
+-- the parts of an attribute with a mark
+module _ (colour : ℕ) where
+  marked-most : (mark : Bool) → colour ≤ mostColour → marked colour mark ≤ 15
+  marked-most true in-colour = omega arith
+  marked-most false in-colour = omega arith
+
+  marked-colour : (mark : Bool) → marked colour mark / 2 ≡ colour
+  marked-colour true = omega arith
+  marked-colour false = omega arith
+
+  marked-mark : (mark : Bool) → eqb (marked colour mark % 2) 1 ≡ mark
+  marked-mark true = let odd : marked colour true % 2 ≡ 1 = omega arith in eq-eqb _ _ odd
+  marked-mark false = let even : marked colour false % 2 ≡ 0 = omega arith in ne-eqb _ _ (λ (z : marked colour false % 2 ≡ 1). omega arith)
+
+-- the parts of an attribute of two numbers
+module _ (m q : ℕ) (in-low : q ≤ 3) where
+  upper : (4 * m + q) / 4 ≡ m
+  upper = omega arith
+
+  lower : (4 * m + q) % 4 ≡ q
+  lower = omega arith
 
 module _ (glyphs : List ℕ) (n : ℕ) (font : List ℕ) (cell : ℕ → ℕ) (shows : Shows glyphs n font cell) where
   -- what the tests of an item tell
@@ -79,22 +93,25 @@ module _ (glyphs : List ℕ) (n : ℕ) (font : List ℕ) (cell : ℕ → ℕ) (s
   reads (Character colour glyph blink) e =
       let parts = character-parts colour glyph blink e in
       let in-font = shows .there glyph (parts .1) in
+      let in-bits = marked-most colour blink (parts .0) in
       let w = wordFor cell (Character colour glyph blink) in
-      let code = code-back (cell glyph) colour blink (omega arith) (parts .0) in
+      let code = code-back (cell glyph) (marked colour blink) (omega arith) in-bits in
       sym (reads-character w (ne-eqb _ _ (λ (z : codeOf w ≡ spaceCode). omega arith)) (ne-eqb _ _ (λ (z : codeOf w ≡ returnCode). omega arith)))
-      ∙ simp (code, colour-back (cell glyph) colour blink (omega arith) (parts .0), mark-back (cell glyph) colour blink (omega arith) (parts .0))
+      ∙ simp (code, colour-back (cell glyph) (marked colour blink) (omega arith) in-bits, mark-back (cell glyph) (marked colour blink) (omega arith) in-bits, marked-colour colour blink, marked-mark colour blink)
   reads (Space background) e =
-      let in-colour = leb-true background mostColour e in
+      let in-bits = marked-most background false (leb-true background mostColour e) in
       let w = wordFor cell (Space background) in
-      sym (reads-space w (eq-eqb _ _ (code-back spaceCode background false (omega arith) in-colour)) (mark-back spaceCode background false (omega arith) in-colour))
-      ∙ ap (λ (c : ℕ). Space c) (colour-back spaceCode background false (omega arith) in-colour)
+      let mark = mark-back spaceCode (marked background false) (omega arith) in-bits in
+      sym (reads-space w (eq-eqb _ _ (code-back spaceCode (marked background false) (omega arith) in-bits)) (simp (mark, marked-mark background false)))
+      ∙ simp (colour-back spaceCode (marked background false) (omega arith) in-bits, marked-colour background false)
   reads (Return size spacing) e =
       let parts = return-parts size spacing e in
-      let back = return-back (size - 1) (spacing .0 / 4) (omega arith) (omega arith) in
+      let t = attributeFor (Return size spacing) in
+      let in-bits : t ≤ 15 = omega arith in
       let w = wordFor cell (Return size spacing) in
-      let code : codeOf w ≡ returnCode = omega (arith, back .0) in
-      let high : sizeOf w ≡ size = omega (arith, back .1 .0) in
-      let gap : spacingOf w ≡ spacing .0 = omega (arith, back .1 .1) in
+      let code = code-back returnCode t (omega arith) in-bits in
+      let high : sizeOf w ≡ size = size-back returnCode t (omega arith) in-bits ∙ rw (upper (size - 1) (spacing .0 / 4) (omega arith)) (omega arith) in
+      let gap : spacingOf w ≡ spacing .0 = spacing-back returnCode t (omega arith) in-bits ∙ rw (lower (size - 1) (spacing .0 / 4) (omega arith)) (omega arith) in
       sym (reads-return w (ne-eqb _ _ (λ (z : codeOf w ≡ spaceCode). omega arith)) (eq-eqb _ _ code)) ∙ simp (high, gap)
   reads End e = sym (reads-end (wordFor cell End) refl refl)
 
@@ -103,9 +120,8 @@ module _ (glyphs : List ℕ) (n : ℕ) (font : List ℕ) (cell : ℕ → ℕ) (s
   unfolding isItem wordFor
   most-word (Character colour glyph blink) e =
       let parts = character-parts colour glyph blink e in
-      let in-font = shows .there glyph (parts .1) in
-      omega (arith, bit (cell glyph) colour blink (omega arith) (parts .0))
-  most-word (Space background) e = let in-colour = leb-true background mostColour e in omega arith
+      omega (arith, shows .there glyph (parts .1), marked-most colour blink (parts .0))
+  most-word (Space background) e = omega (arith, marked-most background false (leb-true background mostColour e))
   most-word (Return size spacing) e = let parts = return-parts size spacing e in omega arith
   most-word End e = omega arith
 

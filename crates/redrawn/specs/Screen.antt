@@ -2,16 +2,18 @@
 -- Its items are kinds, as those of words are, but that the code of a character is the number of a glyph.
 -- Assumes nothing.
 use Prim.Native.Nat.{ℕ, _+_, _-_, _*_, _/_, _%_}
+use mathlib.Core.Path.{_≡_}
 use mathlib.Core.Bool.{Bool, true, false}
 use mathlib.Core.List.{List, [], _∷_, map}
 use lib.Dec.{leb, ltb, eqb}
 use lib.ListN.{length}
 use Rattle.laws.specs.Pick.{pick, both}
+use Rattle.font.specs.Font.{fontCells}
 use Rattle.port.specs.Port.{wordOf}
 use Rattle.judging.specs.Judging.{wordCount, mostColour}
 use Rattle.display.specs.declared.Kind.{Kind}
 use Rattle.display.specs.declared.Kind.the-variants.{Character, Space, Return, End}
-use Rattle.display.specs.Words.{returnCode, spaceCode}
+use Rattle.display.specs.Words.{returnCode, spaceCode, kindOf}
 
 -- an item says what a word can say: one of 8 colours; a size of 1 to 4, and 0, 4, 8 or 12 lines of spacing; and its character is one of n glyphs
 unfoldable pub isItem : ℕ → Kind → Bool
@@ -19,6 +21,10 @@ isItem n (Character colour glyph blink) = both (leb colour mostColour) (ltb glyp
 isItem n (Space background) = leb background mostColour
 isItem n (Return size spacing) = both (both (leb 1 size) (leb size 4)) (both (leb (spacing .0) 12) (eqb (spacing .0 % 4) 0))
 isItem n End = true
+
+-- nothing that a word can say is left out: what any word is, is an item of 62 glyphs
+abbrev pub EveryWord : Type 0
+EveryWord = (w : ℕ) → isItem fontCells (kindOf w) ≡ true
 
 unfoldable pub areItems : ℕ → List Kind → Bool
 areItems n [] = true
