@@ -1,7 +1,7 @@
 -- A screen whose characters name drawn glyphs, and the words that show it by the cells of a font: document 02, M-100.
 -- Its items are kinds, as those of words are, but that the code of a character is the number of a glyph.
 -- Assumes nothing.
-use Prim.Native.Nat.{ℕ, _+_, _-_, _*_, _/_, _%_}
+use Prim.Native.Nat.{ℕ, _+_, _-_, _*_, _/_, _%_, _≤_}
 use mathlib.Core.Path.{_≡_}
 use mathlib.Core.Bool.{Bool, true, false}
 use mathlib.Core.List.{List, [], _∷_, map}
@@ -10,7 +10,7 @@ use lib.ListN.{length}
 use Rattle.laws.specs.Pick.{pick, both}
 use Rattle.font.specs.Font.{fontCells}
 use Rattle.port.specs.Port.{wordOf}
-use Rattle.judging.specs.Judging.{wordCount, mostColour}
+use Rattle.judging.specs.Judging.{wordCount, mostWord, mostColour}
 use Rattle.display.specs.declared.Kind.{Kind}
 use Rattle.display.specs.declared.Kind.the-variants.{Character, Space, Return, End}
 use Rattle.display.specs.Words.{returnCode, spaceCode, kindOf}
@@ -24,7 +24,7 @@ isItem n End = true
 
 -- nothing that a word can say is left out: what any word is, is an item of 62 glyphs
 abbrev pub EveryWord : Type 0
-EveryWord = (w : ℕ) → isItem fontCells (kindOf w) ≡ true
+EveryWord = (w : ℕ) → w ≤ mostWord → isItem fontCells (kindOf w) ≡ true
 
 unfoldable pub areItems : ℕ → List Kind → Bool
 areItems n [] = true
