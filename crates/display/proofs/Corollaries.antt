@@ -1,11 +1,11 @@
--- What follows from the account: a line is its dots, and a smaller width cuts it; the words after an end do not matter; fonts that agree on the characters shown paint the same line;
--- left of the first cell and above it nothing is shown. (That cells never overlap is `one-cell` of Join.antt.)
+-- What follows from the account: a line is its dots, and a smaller width cuts it; what is after an end does not matter; screens whose cells are alike have the same
+-- line, however their characters are numbered and drawn; left of the first cell and above it nothing is shown. (That cells never overlap is `one-cell` of Join.antt.)
 -- Assumes nothing.
 use mathlib.Core.Path.{_≡_, refl, sym, ap, _∙_}
 use mathlib.Core.Bool.{Bool, true, false}
 use mathlib.Core.Logic.{_⊎_, inl, inr, ⊎-elim}
-use mathlib.Core.List.{List, [], _∷_, _++_}
-use Prim.Native.Nat.{ℕ, _-_, _*_, _/_, _<_, _≤_}
+use mathlib.Core.List.{List, [], _∷_, _++_, Forall₂, Forall₂·nil, Forall₂·cons}
+use Prim.Native.Nat.{ℕ, _*_, _<_, _≤_}
 use native.Mathlib.Omega.{arith}
 use Rattle.laws.specs.Pick.{pick}
 use Rattle.laws.specs.Lines.{firstShown, holders}
@@ -14,7 +14,7 @@ use lib.ListN.{take, getD}
 use Rattle.laws.proofs.Lists.{tabulate-same, getD-tabulate, tabulate-cut}
 use Rattle.laws.proofs.Holders.{first-of-none}
 use Rattle.laws.proofs.Placing.{cell-has, cell-below, cell-beside, share-below}
-use Rattle.font.specs.Font.{rowOf}
+use Rattle.font.specs.Font.{cellRows, cellColumns}
 use Rattle.modes.specs.Modes.{outsideByte}
 use Rattle.units.specs.declared.Dots.{Dots}
 use Rattle.units.specs.declared.Lines.{Lines}
@@ -23,80 +23,121 @@ use Rattle.display.specs.declared.Pen.{Pen}
 use Rattle.judging.specs.declared.Settings.{Settings}
 use Rattle.display.specs.declared.Kind.{Kind}
 use Rattle.display.specs.declared.Kind.the-variants.{Character, Space, Return, End}
-use Rattle.display.specs.Words.{kindOf}
 use Rattle.display.specs.Cells.{Shown, character, space, Cell, kindCell, rightOf, belowRow, rowPen, afterWord, goesOn, cellsFrom}
-use Rattle.display.specs.Picture.{has, shownDot, cellDot, dotAt}
-use Rattle.display.specs.Painting.{screenOf, viewOf, dotOf, lineOf}
+use Rattle.display.specs.Picture.{Drawn, has, shownDot, cellDot, dotAt}
+use Rattle.display.specs.Painting.{firstDot, firstLine, viewOf, screenOf, dotOf, lineOf}
 
--- the words that are read: up to the first end, with it
-unfoldable pub wordsRead : List ℕ → List ℕ
-wordsRead [] = []
-wordsRead (w ∷ ws) = w ∷ pick (goesOn (kindOf w)) (wordsRead ws) []
+-- what is read of a screen: up to the first end, with it
+unfoldable pub kindsRead : List Kind → List Kind
+kindsRead [] = []
+kindsRead (kd ∷ kinds) = kd ∷ pick (goesOn kd) (kindsRead kinds) []
 
-cells-read : (left : Dots) (ws : List ℕ) (p : Pen) → cellsFrom left (wordsRead ws) p ≡ cellsFrom left ws p
-unfolding wordsRead cellsFrom
+cells-read : (left : Dots) (kinds : List Kind) (p : Pen) → cellsFrom left (kindsRead kinds) p ≡ cellsFrom left kinds p
+unfolding kindsRead cellsFrom
 cells-read left [] p = refl
-cells-read left (w ∷ ws) p =
-    ap (λ cs. kindCell (p .x) (p .y) (p .size) (p .background) (kindOf w) ++ cs) (go (goesOn (kindOf w)) (cells-read left ws (afterWord left (kindOf w) p)))
+cells-read left (kd ∷ kinds) p =
+    ap (λ cs. kindCell (p .x) (p .y) (p .size) (p .background) kd ++ cs) (go (goesOn kd) (cells-read left kinds (afterWord left kd p)))
   where
-    go : (t : Bool) → cellsFrom left (wordsRead ws) (afterWord left (kindOf w) p) ≡ cellsFrom left ws (afterWord left (kindOf w) p)
-        → pick t (cellsFrom left (pick t (wordsRead ws) []) (afterWord left (kindOf w) p)) [] ≡ pick t (cellsFrom left ws (afterWord left (kindOf w) p)) []
+    go : (t : Bool) → cellsFrom left (kindsRead kinds) (afterWord left kd p) ≡ cellsFrom left kinds (afterWord left kd p)
+        → pick t (cellsFrom left (pick t (kindsRead kinds) []) (afterWord left kd p)) [] ≡ pick t (cellsFrom left kinds (afterWord left kd p)) []
     go true e = e
     go false e = refl
 
--- a line depends on the words read alone
-pub same-words : (words words′ font : List ℕ) (s : Settings) (frame : ℕ) (line : Lines) (width : Dots) → wordsRead words ≡ wordsRead words′
-    → lineOf words font s frame line width ≡ lineOf words′ font s frame line width
+-- a line depends on what is read alone
+pub same-read : (kinds kinds′ : List Kind) (dots : Drawn) (s : Settings) (frame : ℕ) (line : Lines) (width : Dots) → kindsRead kinds ≡ kindsRead kinds′
+    → lineOf kinds dots s frame line width ≡ lineOf kinds′ dots s frame line width
 unfolding dotOf
-same-words words words′ font s frame line width e =
-    let p = rowPen (record { 0 = 4 * s .h }) (record { 0 = 4 * s .v }) 1 (s .colour) in
-    let l : Dots = record { 0 = 4 * s .h } in
-    ap (λ (cs : List Cell). tabulate (width .0) (λ k. pick (s .on) (dotAt font (viewOf s frame line) (s .colour) cs k) 0))
-    (sym (cells-read l words p) ∙ ap (λ (ws : List ℕ). cellsFrom l ws p) e ∙ cells-read l words′ p)
+same-read kinds kinds′ dots s frame line width e =
+    let p = rowPen (firstDot s) (firstLine s) 1 (s .colour) in
+    ap (λ (cs : List Cell). tabulate (width .0) (λ k. pick (s .on) (dotAt dots (viewOf s frame line) (s .colour) cs k) 0))
+    (sym (cells-read (firstDot s) kinds p) ∙ ap (λ (ks : List Kind). cellsFrom (firstDot s) ks p) e ∙ cells-read (firstDot s) kinds′ p)
 
--- the line is its dots, one by one
-pub line-dot : (words font : List ℕ) (s : Settings) (frame : ℕ) (line : Lines) (width : Dots) (k d : ℕ) → k < width .0
-    → getD (lineOf words font s frame line width) k d ≡ dotOf words font s frame line k
-line-dot words font s frame line width k d lt = getD-tabulate (width .0) (dotOf words font s frame line) k d lt
+module _ (kinds : List Kind) (dots : Drawn) (s : Settings) (frame : ℕ) (line : Lines) where
+  -- the line is its dots, one by one
+  pub line-dot : (width : Dots) (k d : ℕ) → k < width .0 → getD (lineOf kinds dots s frame line width) k d ≡ dotOf kinds dots s frame line k
+  line-dot width k d lt = getD-tabulate (width .0) (dotOf kinds dots s frame line) k d lt
 
--- a smaller width cuts the line and changes no dot of it
-pub line-cut : (words font : List ℕ) (s : Settings) (frame : ℕ) (line : Lines) (less width : Dots) → less .0 ≤ width .0
-    → take (less .0) (lineOf words font s frame line width) ≡ lineOf words font s frame line less
-line-cut words font s frame line less width le = tabulate-cut (less .0) (width .0) (dotOf words font s frame line) le
+  -- a smaller width cuts the line and changes no dot of it
+  pub line-cut : (less width : Dots) → less .0 ≤ width .0 → take (less .0) (lineOf kinds dots s frame line width) ≡ lineOf kinds dots s frame line less
+  line-cut less width le = tabulate-cut (less .0) (width .0) (dotOf kinds dots s frame line) le
 
--- two fonts have the same rows of each character shown
-abbrev pub SameCharacter : List ℕ → List ℕ → Shown → Type 0
-SameCharacter f g (character colour code blink) = (l : ℕ) → l < 18 → rowOf f code l ≡ rowOf g code l
-SameCharacter f g space = Unit
+-- what two cells show is the same, each character drawn in its own way: in colour, in blinking, and dot by dot
+abbrev pub SameShown : Drawn → Drawn → Shown → Shown → Type 0
+SameShown dots dots′ (character colour code blink) (character colour′ code′ blink′) =
+    (colour ≡ colour′) × ((blink ≡ blink′) × ((l j : ℕ) → l < cellRows → j < cellColumns → dots code l j ≡ dots′ code′ l j))
+SameShown dots dots′ (character colour code blink) space = ⊥
+SameShown dots dots′ space (character colour code blink) = ⊥
+SameShown dots dots′ space space = Unit
 
-abbrev pub Agree : List ℕ → List ℕ → List Cell → Type 0
-Agree f g [] = Unit
-Agree f g (c ∷ cs) = SameCharacter f g (c .shows) × Agree f g cs
+-- two cells are alike: they have one place, one size and one background, and what they show is the same
+pub record Alike (dots dots′ : Drawn) (c c′ : Cell) : Type 0 where
+  pub left : c .left ≡ c′ .left
+  pub top : c .top ≡ c′ .top
+  pub size : c .size ≡ c′ .size
+  pub background : c .background ≡ c′ .background
+  pub shows : SameShown dots dots′ (c .shows) (c′ .shows)
 
-module _ (f g : List ℕ) (v : View) (k : ℕ) where
-  same-shown : (c : Cell) (sh : Shown) → SameCharacter f g sh → has v k c ≡ true → shownDot f v k c sh ≡ shownDot g v k c sh
+module _ (dots dots′ : Drawn) (v : View) (k : ℕ) where
+  alike-has : (c c′ : Cell) → Alike dots dots′ c c′ → has v k c ≡ has v k c′
+  alike-has c c′ same = rw (same .left, same .top, same .size)
+
+  alike-shown : (c c′ : Cell) (sh sh′ : Shown) → Alike dots dots′ c c′ → SameShown dots dots′ sh sh′ → has v k c ≡ true → shownDot dots v k c sh ≡ shownDot dots′ v k c′ sh′
   unfolding shownDot
-  same-shown c (character colour code blink) same in-cell =
-      let h = cell-has 12 18 (v .line .0) k (c .left .0) (c .top .0) (c .size) in-cell in
-      rw (same ((v .line .0 - c .top .0) / c .size) (share-below 18 (c .size) (v .line .0) (c .top .0) (h .0 .0) (h .0 .1)))
-  same-shown c space same in-cell = refl
+  alike-shown c c′ (character colour code blink) (character colour′ code′ blink′) same shows in-cell =
+      let h = cell-has cellColumns cellRows (v .line .0) k (c .left .0) (c .top .0) (c .size) in-cell in
+      let row = share-below cellRows (c .size) (v .line .0) (c .top .0) (h .0 .0) (h .0 .1) in
+      let column = share-below cellColumns (c .size) k (c .left .0) (h .1 .0) (h .1 .1) in
+      rw (shows .0, shows .1 .0, shows .1 .1 _ _ row column, same .left, same .top, same .size, same .background)
+  alike-shown c c′ (character colour code blink) space same shows in-cell = absurd shows
+  alike-shown c c′ space (character colour code blink) same shows in-cell = absurd shows
+  alike-shown c c′ space space same shows in-cell = rw (same .background)
 
-  same-dot : (cs : List Cell) (other : ℕ) → Agree f g cs → firstShown (has v k) (cellDot f v k) cs other ≡ firstShown (has v k) (cellDot g v k) cs other
+  first-alike : (cs cs′ : List Cell) (other : ℕ) → Forall₂ (Alike dots dots′) cs cs′
+      → firstShown (has v k) (cellDot dots v k) cs other ≡ firstShown (has v k) (cellDot dots′ v k) cs′ other
   unfolding firstShown
-  same-dot [] other agree = refl
-  same-dot (c ∷ cs) other agree = go (has v k c) (same-shown c (c .shows) (agree .0)) (same-dot cs other (agree .1))
+  first-alike cs cs′ other Forall₂·nil = refl
+  first-alike cs cs′ other (Forall₂·cons {a = c} {b = c′} {l₁ = ds} {l₂ = ds′} same rest) =
+      go (has v k c) (has v k c′) (alike-has c c′ same) (alike-shown c c′ (c .shows) (c′ .shows) same (same .shows)) (first-alike ds ds′ other rest)
     where
-      go : (t : Bool) → (t ≡ true → cellDot f v k c ≡ cellDot g v k c) → firstShown (has v k) (cellDot f v k) cs other ≡ firstShown (has v k) (cellDot g v k) cs other
-          → pick t (cellDot f v k c) (firstShown (has v k) (cellDot f v k) cs other) ≡ pick t (cellDot g v k c) (firstShown (has v k) (cellDot g v k) cs other)
-      go true here rest = here refl
-      go false here rest = rest
+      go : (t t′ : Bool) → t ≡ t′ → (t ≡ true → cellDot dots v k c ≡ cellDot dots′ v k c′) → firstShown (has v k) (cellDot dots v k) ds other ≡ firstShown (has v k) (cellDot dots′ v k) ds′ other
+          → pick t (cellDot dots v k c) (firstShown (has v k) (cellDot dots v k) ds other) ≡ pick t′ (cellDot dots′ v k c′) (firstShown (has v k) (cellDot dots′ v k) ds′ other)
+      go true t′ e here there = rw (sym e) (here refl)
+      go false t′ e here there = rw (sym e) there
 
--- fonts that agree on the characters shown paint the same line
-pub same-fonts : (words f g : List ℕ) (s : Settings) (frame : ℕ) (line : Lines) (width : Dots) → Agree f g (screenOf words s)
-    → lineOf words f s frame line width ≡ lineOf words g s frame line width
-unfolding dotOf dotAt
-same-fonts words f g s frame line width agree =
-    tabulate-same (width .0) _ _ (λ k lt. ap (λ (n : ℕ). pick (s .on) n 0) (same-dot f g (viewOf s frame line) k (screenOf words s) (outsideByte (s .mode) (s .colour)) agree))
+  -- lists of cells that are alike one by one make the same picture
+  pub alike-dot : (start : ℕ) (cs cs′ : List Cell) → Forall₂ (Alike dots dots′) cs cs′ → dotAt dots v start cs k ≡ dotAt dots′ v start cs′ k
+  unfolding dotAt
+  alike-dot start cs cs′ alike = first-alike cs cs′ (outsideByte (v .mode) start) alike
+
+-- and screens whose cells are alike have the same line
+pub same-line : (kinds kinds′ : List Kind) (dots dots′ : Drawn) (s : Settings) (frame : ℕ) (line : Lines) (width : Dots) → Forall₂ (Alike dots dots′) (screenOf kinds s) (screenOf kinds′ s)
+    → lineOf kinds dots s frame line width ≡ lineOf kinds′ dots′ s frame line width
+unfolding dotOf
+same-line kinds kinds′ dots dots′ s frame line width alike =
+    tabulate-same (width .0) _ _ (λ k lt. ap (λ (n : ℕ). pick (s .on) n 0) (alike-dot dots dots′ (viewOf s frame line) k (s .colour) (screenOf kinds s) (screenOf kinds′ s) alike))
+
+-- two kinds do the same, wherever the pen is: their cells are alike, the pen goes to one place, and reading goes on after both or neither
+pub record SameKind (dots dots′ : Drawn) (kd kd′ : Kind) : Type 0 where
+  pub cells : (x : Dots) (y : Lines) (size back : ℕ) → Forall₂ (Alike dots dots′) (kindCell x y size back kd) (kindCell x y size back kd′)
+  pub moves : (left : Dots) (p : Pen) → afterWord left kd p ≡ afterWord left kd′ p
+  pub goes : goesOn kd ≡ goesOn kd′
+
+module _ (dots dots′ : Drawn) where
+  alike-append : (cs cs′ ds ds′ : List Cell) → Forall₂ (Alike dots dots′) cs cs′ → Forall₂ (Alike dots dots′) ds ds′ → Forall₂ (Alike dots dots′) (cs ++ ds) (cs′ ++ ds′)
+  alike-append cs cs′ ds ds′ Forall₂·nil second = second
+  alike-append cs cs′ ds ds′ (Forall₂·cons {l₁ = es} {l₂ = es′} same first) second = Forall₂·cons same (alike-append es es′ ds ds′ first second)
+
+  alike-pick : (t : Bool) (ds ds′ : List Cell) → Forall₂ (Alike dots dots′) ds ds′ → Forall₂ (Alike dots dots′) (pick t ds []) (pick t ds′ [])
+  alike-pick true ds ds′ rest = rest
+  alike-pick false ds ds′ rest = Forall₂·nil
+
+  -- screens of kinds that do the same, one by one, have cells that are alike
+  pub alike-cells : (left : Dots) (p : Pen) (kinds kinds′ : List Kind) → Forall₂ (SameKind dots dots′) kinds kinds′ → Forall₂ (Alike dots dots′) (cellsFrom left kinds p) (cellsFrom left kinds′ p)
+  unfolding cellsFrom
+  alike-cells left p kinds kinds′ Forall₂·nil = Forall₂·nil
+  alike-cells left p kinds kinds′ (Forall₂·cons {a = kd} {b = kd′} {l₁ = ks} {l₂ = ks′} same rest) =
+      rw (same .goes, same .moves left p)
+      (alike-append _ _ _ _ (same .cells (p .x) (p .y) (p .size) (p .background)) (alike-pick (goesOn kd′) _ _ (alike-cells left (afterWord left kd′ p) ks ks′ rest)))
 
 -- no cell stands left of where rows start, and none above the pen
 module _ (v : View) (left : Dots) (k : ℕ) where
@@ -108,26 +149,25 @@ module _ (v : View) (left : Dots) (k : ℕ) where
   before-none p b =
       ⊎-elim (λ h. cell-beside 12 18 (v .line .0) k (p .x .0) (p .y .0) (p .size) (omega arith)) (λ h. cell-below 12 18 (v .line .0) k (p .x .0) (p .y .0) (p .size) h) b
 
-  before-kind : (kd : Kind) (ws : List ℕ) (p : Pen) → Before p → ((next : Pen) → Before next → holders (has v k) (cellsFrom left ws next) ≡ 0)
-      → holders (has v k) (kindCell (p .x) (p .y) (p .size) (p .background) kd ++ pick (goesOn kd) (cellsFrom left ws (afterWord left kd p)) []) ≡ 0
+  before-kind : (kd : Kind) (kinds : List Kind) (p : Pen) → Before p → ((next : Pen) → Before next → holders (has v k) (cellsFrom left kinds next) ≡ 0)
+      → holders (has v k) (kindCell (p .x) (p .y) (p .size) (p .background) kd ++ pick (goesOn kd) (cellsFrom left kinds (afterWord left kd p)) []) ≡ 0
   unfolding holders kindCell afterWord Before
-  before-kind (Character colour code blink) ws p b rest =
+  before-kind (Character colour code blink) kinds p b rest =
       simp (before-none p b) (omega (arith, rest (rightOf p (p .background)) (⊎-elim (λ h. inl (h .0, omega arith)) (λ h. inr h) b)))
-  before-kind (Space own) ws p b rest = simp (before-none p b) (omega (arith, rest (rightOf p own) (⊎-elim (λ h. inl (h .0, omega arith)) (λ h. inr h) b)))
-  before-kind (Return next spacing) ws p b rest =
+  before-kind (Space own) kinds p b rest = simp (before-none p b) (omega (arith, rest (rightOf p own) (⊎-elim (λ h. inl (h .0, omega arith)) (λ h. inr h) b)))
+  before-kind (Return next spacing) kinds p b rest =
       rest (rowPen left (belowRow (p .y) (p .size) spacing) next (p .background)) (⊎-elim (λ h. inl (h .0, omega arith)) (λ h. inr (omega arith)) b)
-  before-kind End ws p b rest = refl
+  before-kind End kinds p b rest = refl
 
-  before : (ws : List ℕ) (p : Pen) → Before p → holders (has v k) (cellsFrom left ws p) ≡ 0
+  before : (kinds : List Kind) (p : Pen) → Before p → holders (has v k) (cellsFrom left kinds p) ≡ 0
   unfolding cellsFrom holders
   before [] p b = refl
-  before (w ∷ ws) p b = before-kind (kindOf w) ws p b (λ next n. before ws next n)
+  before (kd ∷ kinds) p b = before-kind kd kinds p b (λ next n. before kinds next n)
 
 -- a dot left of 4h, and each dot of a line above 4v, is outside
-pub outside-left-above : (words font : List ℕ) (s : Settings) (frame : ℕ) (line : Lines) (k : ℕ) → (k < 4 * s .h) ⊎ (line .0 < 4 * s .v)
-    → dotAt font (viewOf s frame line) (s .colour) (screenOf words s) k ≡ outsideByte (s .mode) (s .colour)
+pub outside-left-above : (kinds : List Kind) (dots : Drawn) (s : Settings) (frame : ℕ) (line : Lines) (k : ℕ) → (k < 4 * s .h) ⊎ (line .0 < 4 * s .v)
+    → dotAt dots (viewOf s frame line) (s .colour) (screenOf kinds s) k ≡ outsideByte (s .mode) (s .colour)
 unfolding dotAt Before
-outside-left-above words font s frame line k b =
-    first-of-none (has (viewOf s frame line) k) (cellDot font (viewOf s frame line) k) (screenOf words s) (outsideByte (s .mode) (s .colour))
-    (before (viewOf s frame line) (record { 0 = 4 * s .h }) k words (rowPen (record { 0 = 4 * s .h }) (record { 0 = 4 * s .v }) 1 (s .colour))
-    (⊎-elim (λ h. inl (h, omega arith)) (λ h. inr h) b))
+outside-left-above kinds dots s frame line k b =
+    first-of-none (has (viewOf s frame line) k) (cellDot dots (viewOf s frame line) k) (screenOf kinds s) (outsideByte (s .mode) (s .colour))
+    (before (viewOf s frame line) (firstDot s) k kinds (rowPen (firstDot s) (firstLine s) 1 (s .colour)) (⊎-elim (λ h. inl (h, omega arith)) (λ h. inr h) b))

@@ -12,6 +12,7 @@ use Rattle.laws.specs.Pick.{pick}
 use Rattle.laws.specs.Lines.{lastShown}
 use Rattle.laws.proofs.Holders.{last-skip}
 use Rattle.laws.proofs.Placing.{cell-above}
+use Rattle.font.specs.Font.{fontDot}
 use Rattle.units.specs.declared.Dots.{Dots}
 use Rattle.units.specs.declared.Lines.{Lines}
 use Rattle.judging.specs.Judging.{mostColour}
@@ -20,7 +21,7 @@ use Rattle.display.specs.declared.Kind.{Kind}
 use Rattle.display.specs.declared.Kind.the-variants.{Character, Space, Return, End}
 use Rattle.display.specs.declared.RowEnd.{RowEnd}
 use Rattle.display.specs.declared.RowEnd.the-variants.{Over, Next}
-use Rattle.display.specs.Words.{kindOf}
+use Rattle.display.specs.Words.{kindOf, kindsOf}
 use Rattle.display.specs.Cells.{character, space, kindCell, belowRow, rowPen, afterWord, goesOn, cellsFrom}
 use Rattle.display.specs.Picture.{has, cellDot}
 use Rattle.display.specs.Steps.{painted, later, endAt, rowEnd, NextSound}
@@ -30,26 +31,26 @@ module _ (font : List ℕ) (v : View) (left : Dots) (y : Lines) (size k old : �
   -- dot k as the words after the row's end make it
   abbrev pub resumed : List ℕ → RowEnd → ℕ
   resumed ws Over = old
-  resumed ws (Next read next spacing back) = painted font v (cellsFrom left (drop read ws) (rowPen left (belowRow y size spacing) next back)) k old
+  resumed ws (Next read next spacing back) = painted font v (cellsFrom left (kindsOf (drop read ws)) (rowPen left (belowRow y size spacing) next back)) k old
 
   resumed-later : (w : ℕ) (ws : List ℕ) (r : RowEnd) → resumed ws r ≡ resumed (w ∷ ws) (later r)
   resumed-later w ws Over = refl
   resumed-later w ws (Next read next spacing back) = refl
 
   passed-kind : (kd : Kind) (w : ℕ) (ws : List ℕ) (x : Dots) (back : ℕ) → y .0 + 18 * size ≤ v .line .0
-      → ((x′ : Dots) (back′ : ℕ) → painted font v (cellsFrom left ws (record { x = x′; y = y; size = size; background = back′ })) k old ≡ resumed ws (rowEnd ws back′))
-      → painted font v (kindCell x y size back kd ++ pick (goesOn kd) (cellsFrom left ws (afterWord left kd (record { x = x; y = y; size = size; background = back }))) []) k old
+      → ((x′ : Dots) (back′ : ℕ) → painted font v (cellsFrom left (kindsOf ws) (record { x = x′; y = y; size = size; background = back′ })) k old ≡ resumed ws (rowEnd ws back′))
+      → painted font v (kindCell x y size back kd ++ pick (goesOn kd) (cellsFrom left (kindsOf ws) (afterWord left kd (record { x = x; y = y; size = size; background = back }))) []) k old
       ≡ resumed (w ∷ ws) (endAt kd back (λ b. rowEnd ws b))
   unfolding kindCell afterWord lastShown
   passed-kind (Character colour code blink) w ws x back above rest =
-      last-skip (has v k) (cellDot font v k) (record { left = x; top = y; size = size; background = back; shows = character colour code blink })
-      (cellsFrom left ws (record { x = record { 0 = x .0 + 12 * size }; y = y; size = size; background = back })) old
+      last-skip (has v k) (cellDot (fontDot font) v k) (record { left = x; top = y; size = size; background = back; shows = character colour code blink })
+      (cellsFrom left (kindsOf ws) (record { x = record { 0 = x .0 + 12 * size }; y = y; size = size; background = back })) old
       (cell-above 12 18 (v .line .0) k (x .0) (y .0) size above)
       ∙ rest (record { 0 = x .0 + 12 * size }) back
       ∙ resumed-later w ws (rowEnd ws back)
   passed-kind (Space own) w ws x back above rest =
-      last-skip (has v k) (cellDot font v k) (record { left = x; top = y; size = size; background = own; shows = space })
-      (cellsFrom left ws (record { x = record { 0 = x .0 + 12 * size }; y = y; size = size; background = own })) old
+      last-skip (has v k) (cellDot (fontDot font) v k) (record { left = x; top = y; size = size; background = own; shows = space })
+      (cellsFrom left (kindsOf ws) (record { x = record { 0 = x .0 + 12 * size }; y = y; size = size; background = own })) old
       (cell-above 12 18 (v .line .0) k (x .0) (y .0) size above)
       ∙ rest (record { 0 = x .0 + 12 * size }) own
       ∙ resumed-later w ws (rowEnd ws own)
@@ -58,8 +59,8 @@ module _ (font : List ℕ) (v : View) (left : Dots) (y : Lines) (size k old : �
 
   -- a row above the line is passed over
   pub passed : (ws : List ℕ) (x : Dots) (back : ℕ) → y .0 + 18 * size ≤ v .line .0
-      → painted font v (cellsFrom left ws (record { x = x; y = y; size = size; background = back })) k old ≡ resumed ws (rowEnd ws back)
-  unfolding cellsFrom rowEnd lastShown
+      → painted font v (cellsFrom left (kindsOf ws) (record { x = x; y = y; size = size; background = back })) k old ≡ resumed ws (rowEnd ws back)
+  unfolding kindsOf cellsFrom rowEnd lastShown
   passed [] x back above = refl
   passed (w ∷ ws) x back above = passed-kind (kindOf w) w ws x back above (λ x′ back′. passed ws x′ back′ above)
 

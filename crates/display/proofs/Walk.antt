@@ -12,6 +12,7 @@ use Rattle.laws.specs.Lines.{overlay, lastShown}
 use Rattle.laws.proofs.Overlay.{overlay-leaves, overlay-same, overlay-twice}
 use Rattle.laws.proofs.Holders.{last-append}
 use Rattle.laws.proofs.Placing.{room-step}
+use Rattle.font.specs.Font.{fontDot}
 use Rattle.units.specs.declared.Dots.{Dots}
 use Rattle.units.specs.declared.Lines.{Lines}
 use Rattle.display.specs.declared.View.{View}
@@ -19,8 +20,8 @@ use Rattle.display.specs.declared.Pen.{Pen}
 use Rattle.display.specs.declared.Placed.{Placed}
 use Rattle.display.specs.declared.Kind.{Kind}
 use Rattle.display.specs.declared.Kind.the-variants.{Character, Space, Return, End}
-use Rattle.display.specs.Words.{kindOf}
-use Rattle.display.specs.Cells.{placedWord, cellOf, rightOf, belowRow, rowPen, afterWord, goesOn, cellsFrom}
+use Rattle.display.specs.Words.{kindOf, kindsOf}
+use Rattle.display.specs.Cells.{placedAt, cellOf, rightOf, belowRow, rowPen, afterWord, goesOn, cellsFrom}
 use Rattle.display.specs.Picture.{has, cellDot}
 use Rattle.display.specs.Steps.{painted, Sound, Room}
 
@@ -45,53 +46,53 @@ room-after v p End n m r e s =
 
 module _ (font : List ℕ) (v : View) (left : Dots) (ws : List ℕ) (p : Pen) where
   -- no word is left
-  pub stops : (out : List ℕ) → length ws ≡ 0 → out ≡ overlay (painted font v (cellsFrom left ws p)) out
-  unfolding cellsFrom lastShown
+  pub stops : (out : List ℕ) → length ws ≡ 0 → out ≡ overlay (painted font v (cellsFrom left (kindsOf ws) p)) out
+  unfolding kindsOf cellsFrom lastShown
   stops out e = go ws e
     where
-      go : (ws : List ℕ) → length ws ≡ 0 → out ≡ overlay (painted font v (cellsFrom left ws p)) out
+      go : (ws : List ℕ) → length ws ≡ 0 → out ≡ overlay (painted font v (cellsFrom left (kindsOf ws) p)) out
       go [] e = overlay-leaves (painted font v []) out (λ k a lt. refl)
       go (w ∷ ws) e = absurd (omega arith)
 
-  first : (cell : Placed) → 0 < length ws → cell ≡ placedWord (getD ws 0 0) p
-      → cellOf cell (p .background) ++ pick (goesOn (cell .kind)) (cellsFrom left (drop 1 ws) (afterWord left (cell .kind) p)) [] ≡ cellsFrom left ws p
-  unfolding cellsFrom
+  first : (cell : Placed) → 0 < length ws → cell ≡ placedAt p (kindOf (getD ws 0 0))
+      → cellOf cell (p .background) ++ pick (goesOn (cell .kind)) (cellsFrom left (kindsOf (drop 1 ws)) (afterWord left (cell .kind) p)) [] ≡ cellsFrom left (kindsOf ws) p
+  unfolding kindsOf cellsFrom
   first cell lt is = rw is (go ws lt)
     where
       go : (ws : List ℕ) → 0 < length ws
-          → cellOf (placedWord (getD ws 0 0) p) (p .background) ++ pick (goesOn (kindOf (getD ws 0 0))) (cellsFrom left (drop 1 ws) (afterWord left (kindOf (getD ws 0 0)) p)) []
-          ≡ cellsFrom left ws p
+          → cellOf (placedAt p (kindOf (getD ws 0 0))) (p .background) ++ pick (goesOn (kindOf (getD ws 0 0))) (cellsFrom left (kindsOf (drop 1 ws)) (afterWord left (kindOf (getD ws 0 0)) p)) []
+          ≡ cellsFrom left (kindsOf ws) p
       go [] lt = absurd (omega arith)
       go (w ∷ ws) lt = refl
 
   -- the first word is an end
   pub ends : (cell : Placed) (out mid : List ℕ) → 0 < length ws
-      → cell ≡ placedWord (getD ws 0 0) p → cell .kind ≡ End
+      → cell ≡ placedAt p (kindOf (getD ws 0 0)) → cell .kind ≡ End
       → mid ≡ overlay (painted font v (cellOf cell (p .background))) out
-      → mid ≡ overlay (painted font v (cellsFrom left ws p)) out
+      → mid ≡ overlay (painted font v (cellsFrom left (kindsOf ws) p)) out
   ends cell out mid lt is end drawn =
       drawn
       ∙ ap (λ cs. overlay (painted font v cs) out)
       (sym (append-nil (cellOf cell (p .background)))
-      ∙ ap (λ (kd : Kind). cellOf cell (p .background) ++ pick (goesOn kd) (cellsFrom left (drop 1 ws) (afterWord left (cell .kind) p)) []) (sym end)
+      ∙ ap (λ (kd : Kind). cellOf cell (p .background) ++ pick (goesOn kd) (cellsFrom left (kindsOf (drop 1 ws)) (afterWord left (cell .kind) p)) []) (sym end)
       ∙ first cell lt is)
 
   -- it is another, and the words after it are painted from the next pen on
   pub steps : (cell : Placed) (next : Pen) (out mid last : List ℕ) → 0 < length ws
-      → cell ≡ placedWord (getD ws 0 0) p → next ≡ afterWord left (cell .kind) p → goesOn (cell .kind) ≡ true
+      → cell ≡ placedAt p (kindOf (getD ws 0 0)) → next ≡ afterWord left (cell .kind) p → goesOn (cell .kind) ≡ true
       → mid ≡ overlay (painted font v (cellOf cell (p .background))) out
-      → last ≡ overlay (painted font v (cellsFrom left (take (length ws - 1) (drop 1 ws)) next)) mid
-      → last ≡ overlay (painted font v (cellsFrom left ws p)) out
+      → last ≡ overlay (painted font v (cellsFrom left (kindsOf (take (length ws - 1) (drop 1 ws))) next)) mid
+      → last ≡ overlay (painted font v (cellsFrom left (kindsOf ws) p)) out
   steps cell next out mid last lt is moved on drawn done =
       let here = cellOf cell (p .background) in
-      let rest = cellsFrom left (drop 1 ws) (afterWord left (cell .kind) p) in
+      let rest = cellsFrom left (kindsOf (drop 1 ws)) (afterWord left (cell .kind) p) in
       done
-      ∙ ap (λ (t : List ℕ). overlay (painted font v (cellsFrom left t next)) mid) (part-is ws 1)
-      ∙ ap (λ (q : Pen). overlay (painted font v (cellsFrom left (drop 1 ws) q)) mid) moved
+      ∙ ap (λ (t : List ℕ). overlay (painted font v (cellsFrom left (kindsOf t) next)) mid) (part-is ws 1)
+      ∙ ap (λ (q : Pen). overlay (painted font v (cellsFrom left (kindsOf (drop 1 ws)) q)) mid) moved
       ∙ ap (λ (t : List ℕ). overlay (painted font v rest) t) drawn
       ∙ overlay-twice (painted font v here) (painted font v rest) 0 out
       ∙ overlay-same _ _ out (λ k a.
-      sym (last-append (has v k) (cellDot font v k) here rest a)
+      sym (last-append (has v k) (cellDot (fontDot font) v k) here rest a)
       ∙ ap (λ (t : Bool). painted font v (here ++ pick t rest []) k a) (sym on)
       ∙ ap (λ cs. painted font v cs k a) (first cell lt is))
 
@@ -103,7 +104,7 @@ room-rest v p next kd ws r lt s e =
     (room-after v p kd (length ws) (length (take (length ws - 1) (drop 1 ws))) r (omega (arith, part-length ws 1)) s)
 
 module _ (left : Dots) (p : Pen) (cell : Placed) where
-  pub moved-return : (w size : ℕ) (spacing y : Lines) → cell ≡ placedWord w p → cell .kind ≡ Return size spacing
+  pub moved-return : (w size : ℕ) (spacing y : Lines) → cell ≡ placedAt p (kindOf w) → cell .kind ≡ Return size spacing
       → y ≡ belowRow (cell .y) (cell .size) spacing → rowPen left y size (p .background) ≡ afterWord left (cell .kind) p
   unfolding afterWord
   moved-return w size spacing y is told e =

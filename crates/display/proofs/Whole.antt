@@ -15,6 +15,7 @@ use Rattle.laws.specs.Lines.{overlay}
 use Rattle.laws.specs.Lists.{tabulate}
 use Rattle.laws.proofs.Overlay.{overlay-filled}
 use Rattle.laws.proofs.Lists.{tabulate-same, tabulate-constant}
+use Rattle.font.specs.Font.{fontDot}
 use Rattle.units.specs.declared.Dots.{Dots}
 use Rattle.units.specs.declared.Lines.{Lines}
 use Rattle.modes.specs.Modes.{video, outsideByte, litIn}
@@ -25,6 +26,7 @@ use Rattle.judging.specs.Judging.{answerOf, said}
 use Rattle.judging.proofs.Accepted.{accepted-done, done-is, not-done}
 use Rattle.judging.proofs.Painted.{the-type}
 use Rattle.display.specs.declared.View.{View}
+use Rattle.display.specs.Words.{kindsOf}
 use Rattle.display.specs.Cells.{rowPen}
 use Rattle.display.specs.Picture.{dotAt}
 use Rattle.display.specs.Painting.{firstDot, firstLine, screenOf, viewOf, dotOf, lineOf, leftBy}
@@ -34,8 +36,8 @@ use Rattle.display.proofs.Join.{joined}
 -- a line of outside bytes, painted over by the cells in turn; of settings that are usable every bit counts
 pub on-line : (words font : List ℕ) (s : Settings) (frame : ℕ) (line : Lines) (lit : Bool) (n other : ℕ) (mid last : List ℕ) → Usable words font s → lit ≡ litIn (s .ratio % 4) (s .frequency % 4) frame
     → other ≡ outsideByte (s .mode) (s .colour % 8) → mid ≡ replicate n other
-    → last ≡ overlay (painted font (record { left = firstDot s; line = line; mode = s .mode; lit = lit }) (screenOf words s)) mid
-    → last ≡ tabulate n (dotAt font (viewOf s frame line) (s .colour) (screenOf words s))
+    → last ≡ overlay (painted font (record { left = firstDot s; line = line; mode = s .mode; lit = lit }) (screenOf (kindsOf words) s)) mid
+    → last ≡ tabulate n (dotAt (fontDot font) (viewOf s frame line) (s .colour) (screenOf (kindsOf words) s))
 unfolding dotAt
 on-line words font s frame line lit n other mid last usable blink shade filled walked =
     let colour : s .colour % 8 ≡ s .colour = omega (arith, usable .colour) in
@@ -43,10 +45,10 @@ on-line words font s frame line lit n other mid last usable blink shade filled w
     let frequency : s .frequency % 4 ≡ s .frequency = omega (arith, usable .frequency) in
     let view : Bool → View = λ b. record { left = firstDot s; line = line; mode = s .mode; lit = b } in
     walked
-    ∙ ap (λ (t : List ℕ). overlay (painted font (view lit) (screenOf words s)) t) (filled ∙ ap (λ (b : ℕ). replicate n b) (shade ∙ ap (outsideByte (s .mode)) colour))
-    ∙ overlay-filled (painted font (view lit) (screenOf words s)) (outsideByte (s .mode) (s .colour)) n
-    ∙ tabulate-same n _ _ (λ k lt. joined (view lit) (firstDot s) k font words (rowPen (firstDot s) (firstLine s) 1 (s .colour)) (outsideByte (s .mode) (s .colour)))
-    ∙ ap (λ (b : Bool). tabulate n (dotAt font (view b) (s .colour) (screenOf words s))) (blink ∙ ap (λ (q : ℕ). litIn q (s .frequency % 4) frame) ratio ∙ ap (λ (q : ℕ). litIn (s .ratio) q frame) frequency)
+    ∙ ap (λ (t : List ℕ). overlay (painted font (view lit) (screenOf (kindsOf words) s)) t) (filled ∙ ap (λ (b : ℕ). replicate n b) (shade ∙ ap (outsideByte (s .mode)) colour))
+    ∙ overlay-filled (painted font (view lit) (screenOf (kindsOf words) s)) (outsideByte (s .mode) (s .colour)) n
+    ∙ tabulate-same n _ _ (λ k lt. joined (view lit) (firstDot s) k font (kindsOf words) (rowPen (firstDot s) (firstLine s) 1 (s .colour)) (outsideByte (s .mode) (s .colour)))
+    ∙ ap (λ (b : Bool). tabulate n (dotAt (fontDot font) (view b) (s .colour) (screenOf (kindsOf words) s))) (blink ∙ ap (λ (q : ℕ). litIn q (s .frequency % 4) frame) ratio ∙ ap (λ (q : ℕ). litIn (s .ratio) q frame) frequency)
 
 -- the first n bytes
 pub part-there : (n : ℕ) (out : List ℕ) → n ≤ length out → n ≡ length (take n out)
@@ -69,20 +71,20 @@ module _ (words font : List ℕ) (s : Settings) (frame : ℕ) (line : Lines) (wi
       simp (ne-eqb (answerOf words font s line width (length out) .number) 0 (λ z. not-done r other (ap (λ (a : Said). a .number) e ∙ z)))
 
   module _ (done : r ≡ Done) (last : List ℕ) where
-    leaves : last ≡ lineOf words font s frame line width → last ++ drop (width .0) out ≡ leftBy words font s frame line width out
+    leaves : last ≡ lineOf (kindsOf words) (fontDot font) s frame line width → last ++ drop (width .0) out ≡ leftBy words font s frame line width out
     unfolding leftBy
     leaves l =
         simp (eq-eqb (answerOf words font s line width (length out) .number) 0 (ap (λ (a : Said). a .number) (done-is r _ e done)))
         (ap (λ (t : List ℕ). t ++ drop (width .0) out) l)
 
-    pub shown : s .on ≡ true → last ≡ tabulate (length (take (width .0) out)) (dotAt font (viewOf s frame line) (s .colour) (screenOf words s))
+    pub shown : s .on ≡ true → last ≡ tabulate (length (take (width .0) out)) (dotAt (fontDot font) (viewOf s frame line) (s .colour) (screenOf (kindsOf words) s))
         → last ++ drop (width .0) out ≡ leftBy words font s frame line width out
     unfolding dotOf
     shown on l =
         leaves
         (l
-        ∙ ap (λ (n : ℕ). tabulate n (dotAt font (viewOf s frame line) (s .colour) (screenOf words s))) (length-take-le (width .0) out (room-there words font s line width out r e done))
-        ∙ tabulate-same (width .0) (dotAt font (viewOf s frame line) (s .colour) (screenOf words s)) (dotOf words font s frame line) (λ k lt. simp on))
+        ∙ ap (λ (n : ℕ). tabulate n (dotAt (fontDot font) (viewOf s frame line) (s .colour) (screenOf (kindsOf words) s))) (length-take-le (width .0) out (room-there words font s line width out r e done))
+        ∙ tabulate-same (width .0) (dotAt (fontDot font) (viewOf s frame line) (s .colour) (screenOf (kindsOf words) s)) (dotOf (kindsOf words) (fontDot font) s frame line) (λ k lt. simp on))
 
     pub dark : s .on ≡ false → last ≡ replicate (length (take (width .0) out)) video → last ++ drop (width .0) out ≡ leftBy words font s frame line width out
     unfolding dotOf
@@ -91,4 +93,4 @@ module _ (words font : List ℕ) (s : Settings) (frame : ℕ) (line : Lines) (wi
         (l
         ∙ ap (λ (n : ℕ). replicate n video) (length-take-le (width .0) out (room-there words font s line width out r e done))
         ∙ tabulate-constant video (width .0)
-        ∙ tabulate-same (width .0) (λ k. video) (dotOf words font s frame line) (λ k lt. simp off))
+        ∙ tabulate-same (width .0) (λ k. video) (dotOf (kindsOf words) (fontDot font) s frame line) (λ k lt. simp off))

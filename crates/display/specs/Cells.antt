@@ -1,6 +1,6 @@
 -- The cells of a screen: document 01, 'From words to dots', first paragraph and the place of the first cell.
--- The words are read from 0 with a pen, which has the place, the size and the background of what comes next. Each character and each
--- space takes a cell there. The list of cells is all that a screen's dots depend on.
+-- A screen is a list of kinds, what its words are. It is read from the first on with a pen, which has the place, the size and the
+-- background of what comes next. Each character and each space takes a cell there. The list of cells is all that a screen's dots depend on.
 -- Assumes nothing.
 use Prim.Native.Nat.{ℕ, _+_, _*_}
 use mathlib.Core.List.{List, [], _∷_, _++_}
@@ -13,9 +13,8 @@ use Rattle.display.specs.declared.Pen.{Pen}
 use Rattle.display.specs.declared.Placed.{Placed}
 use Rattle.display.specs.declared.Kind.{Kind}
 use Rattle.display.specs.declared.Kind.the-variants.{Character, Space, Return, End}
-use Rattle.display.specs.Words.{kindOf}
 
--- what a cell shows: a character of the font in a colour, blinking or not, or nothing
+-- what a cell shows: a character in a colour, blinking or not, or nothing
 pub data Shown : Type 0 where
   character : ℕ → ℕ → Bool → Shown
   space : Shown
@@ -27,9 +26,9 @@ pub record Cell : Type 0 where
   pub background : ℕ
   pub shows : Shown
 
--- a word where the pen is
-abbrev pub placedWord : ℕ → Pen → Placed
-placedWord w p = record { x = p .x; y = p .y; size = p .size; kind = kindOf w }
+-- a word of this kind where the pen is
+abbrev pub placedAt : Pen → Kind → Placed
+placedAt p kind = record { x = p .x; y = p .y; size = p .size; kind = kind }
 
 -- the cell of a word of this kind: none for a return and an end. `before` is the background before it; a space has its own.
 unfoldable pub kindCell : Dots → Lines → ℕ → ℕ → Kind → List Cell
@@ -68,12 +67,12 @@ goesOn (Character colour code blink) = true
 goesOn (Space own) = true
 goesOn (Return next spacing) = true
 
--- the cells of these words, the first of which stands at the pen
-unfoldable pub cellsFrom : Dots → List ℕ → Pen → List Cell
+-- the cells of words of these kinds, the first of which stands at the pen
+unfoldable pub cellsFrom : Dots → List Kind → Pen → List Cell
 cellsFrom left [] p = []
-cellsFrom left (w ∷ ws) p =
-    cellOf (placedWord w p) (p .background) ++ pick (goesOn (kindOf w)) (cellsFrom left ws (afterWord left (kindOf w) p)) []
+cellsFrom left (kind ∷ kinds) p =
+    cellOf (placedAt p kind) (p .background) ++ pick (goesOn kind) (cellsFrom left kinds (afterWord left kind p)) []
 
 -- the cells of a screen: the first row has size 1, and cells that no space precedes have the starting background
-abbrev pub cells : Dots → Lines → ℕ → List ℕ → List Cell
-cells left top start words = cellsFrom left words (rowPen left top 1 start)
+abbrev pub cells : Dots → Lines → ℕ → List Kind → List Cell
+cells left top start kinds = cellsFrom left kinds (rowPen left top 1 start)

@@ -6,10 +6,14 @@ use mathlib.Core.Bool.{Bool, true, false}
 use Rattle.laws.specs.Pick.{pick, both}
 use Rattle.laws.specs.Lines.{firstShown}
 use Rattle.laws.specs.Placing.{cellHas}
-use Rattle.font.specs.Font.{cellRows, cellColumns, fontDot}
+use Rattle.font.specs.Font.{cellRows, cellColumns}
 use Rattle.modes.specs.Modes.{inColour, unlitByte, outsideByte}
 use Rattle.display.specs.declared.View.{View}
 use Rattle.display.specs.Cells.{Shown, character, space, Cell}
+
+-- how characters are drawn: whether a character has the dot in a row and a column
+abbrev pub Drawn : Type 0
+Drawn = ℕ → ℕ → ℕ → Bool
 
 -- a character shows its dots, unless it blinks and is out of its lit part
 abbrev pub steadyOr : Bool → Bool → Bool
@@ -20,17 +24,17 @@ steadyOr false lit = true
 abbrev pub has : View → ℕ → Cell → Bool
 has v k c = cellHas cellColumns cellRows (c .left .0) (c .top .0) (c .size) (v .line .0) k
 
--- dot k of the line in a cell that has it: a cell of size s shows each dot of its font s dots wide and s lines high
-unfoldable pub shownDot : List ℕ → View → ℕ → Cell → Shown → ℕ
-shownDot font v k c (character colour code blink) =
-    pick (both (steadyOr blink (v .lit)) (fontDot font code ((v .line .0 - c .top .0) / c .size) ((k - c .left .0) / c .size)))
+-- dot k of the line in a cell that has it: a cell of size s shows each dot of its character s dots wide and s lines high
+unfoldable pub shownDot : Drawn → View → ℕ → Cell → Shown → ℕ
+shownDot dots v k c (character colour code blink) =
+    pick (both (steadyOr blink (v .lit)) (dots code ((v .line .0 - c .top .0) / c .size) ((k - c .left .0) / c .size)))
     (inColour colour)
     (unlitByte (v .mode) (c .background))
-shownDot font v k c space = unlitByte (v .mode) (c .background)
+shownDot dots v k c space = unlitByte (v .mode) (c .background)
 
-abbrev pub cellDot : List ℕ → View → ℕ → Cell → ℕ
-cellDot font v k c = shownDot font v k c (c .shows)
+abbrev pub cellDot : Drawn → View → ℕ → Cell → ℕ
+cellDot dots v k c = shownDot dots v k c (c .shows)
 
 -- dot k of the line: what the cell that has it shows, else what is outside every cell
-unfoldable pub dotAt : List ℕ → View → ℕ → List Cell → ℕ → ℕ
-dotAt font v start cs k = firstShown (has v k) (cellDot font v k) cs (outsideByte (v .mode) start)
+unfoldable pub dotAt : Drawn → View → ℕ → List Cell → ℕ → ℕ
+dotAt dots v start cs k = firstShown (has v k) (cellDot dots v k) cs (outsideByte (v .mode) start)

@@ -8,7 +8,7 @@ use mathlib.Core.Bool.{Bool}
 use Rattle.laws.specs.Pick.{pick}
 use Rattle.laws.specs.Lines.{lastShown}
 use lib.ListN.{length}
-use Rattle.font.specs.Font.{fontCells, fontRows, cellRows, cellColumns, rowOf}
+use Rattle.font.specs.Font.{fontCells, fontRows, cellRows, cellColumns, rowOf, fontDot}
 use Rattle.units.specs.declared.Lines.{Lines}
 use Rattle.judging.specs.declared.Settings.{Settings}
 use Rattle.judging.specs.Judging.{wordCount, mostColour, mostPlace, mostFrequency}
@@ -25,7 +25,7 @@ use Rattle.display.specs.Picture.{has, cellDot, steadyOr}
 
 -- dot k after the cells have painted over it in turn
 abbrev pub painted : List ℕ → View → List Cell → ℕ → ℕ → ℕ
-painted font v cs k old = lastShown (has v k) (cellDot font v k) cs old
+painted font v cs k old = lastShown (has v k) (cellDot (fontDot font) v k) cs old
 
 -- the 12 bits that a character shows on the line: none while it is blinked out
 abbrev pub shownBits : List ℕ → View → Lines → ℕ → ℕ → Bool → ℕ

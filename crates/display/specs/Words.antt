@@ -2,6 +2,7 @@
 -- A word has 10 bits: its code in bits 9 to 4, and T3 to T0 in bits 3 to 0; the code says what the T bits mean.
 -- Assumes nothing.
 use Prim.Native.Nat.{ℕ, _+_, _*_, _/_, _%_}
+use mathlib.Core.List.{List, map}
 use mathlib.Core.Bool.{Bool}
 use lib.Dec.{eqb}
 use Rattle.laws.specs.Pick.{pick}
@@ -39,3 +40,7 @@ kindOf w =
     pick (eqb (codeOf w) spaceCode)
     (pick (markOf w) End (Space (colourOf w)))
     (pick (eqb (codeOf w) returnCode) (Return (sizeOf w) (record { 0 = spacingOf w })) (Character (colourOf w) (codeOf w) (markOf w)))
+
+-- what the words of a screen are, one by one
+unfoldable pub kindsOf : List ℕ → List Kind
+kindsOf words = map kindOf words

@@ -4,9 +4,10 @@ ghost use Prim.Native.Nat.{_/_, _≤_};
 ghost use lib.ListN.{length};
 ghost use Rattle.laws.specs.Lines.{overlay};
 ghost use Rattle.laws.specs.Lists.{tabulate};
+ghost use Rattle.font.specs.Font.{fontDot};
 ghost use Rattle.judging.specs.Judging.{answerOf, said, mostColour};
-ghost use Rattle.display.specs.Words.{kindOf};
-ghost use Rattle.display.specs.Cells.{placedWord, cellOf, rightOf, belowRow, rowPen, cellsFrom};
+ghost use Rattle.display.specs.Words.{kindOf, kindsOf};
+ghost use Rattle.display.specs.Cells.{placedAt, cellOf, rightOf, belowRow, rowPen, cellsFrom};
 ghost use Rattle.display.specs.Picture.{steadyOr, dotAt};
 ghost use Rattle.display.specs.Painting.{viewOf, screenOf, leftBy};
 ghost use Rattle.display.specs.Steps.{painted, shownBits, rowEnd, mostSize, mostSpacing, far, Sound, EndSound, Usable, RowAsks, CellAsks, DrawAsks, BitsAsks};
@@ -107,7 +108,7 @@ fn paint_line(
     out: &mut [u8],
 )
     requires { ⌜ Usable (now words) (now font) settings ⌝ }
-    ensures { λ _. ⌜ now (out .exit) ≡ tabulate (length (now (out .entry))) (dotAt (now (font .entry)) (viewOf settings frame line) (settings .colour) (screenOf (now (words .entry)) settings)) ⌝ }
+    ensures { λ _. ⌜ now (out .exit) ≡ tabulate (length (now (out .entry))) (dotAt (fontDot (now (font .entry))) (viewOf settings frame line) (settings .colour) (screenOf (kindsOf (now (words .entry))) settings)) ⌝ }
 {
     let lit = modes::lit(settings.ratio, settings.frequency, frame);
     let x = 4 * settings.h as usize;
@@ -134,7 +135,7 @@ fn row_step(
     out: &mut [u8],
 )
     requires { ⌜ RowAsks (now font) view (rowPen (view .left) y size background) (length (now words)) ⌝ }
-    ensures { λ _. ⌜ now (out .exit) ≡ overlay (painted (now (font .entry)) view (cellsFrom (view .left) (now (words .entry)) (rowPen (view .left) y size background))) (now (out .entry)) ⌝ }
+    ensures { λ _. ⌜ now (out .exit) ≡ overlay (painted (now (font .entry)) view (cellsFrom (view .left) (kindsOf (now (words .entry))) (rowPen (view .left) y size background))) (now (out .entry)) ⌝ }
 {
     let line = view.line.0;
     if line < y.0 {
@@ -174,7 +175,7 @@ fn row_step(
 // The first of these words stands at the pen, in the row that the line cuts.
 fn cell_step(words: &[u16], font: &[u16], view: View, pen: Pen, out: &mut [u8])
     requires { ⌜ CellAsks (now font) view pen (length (now words)) ⌝ }
-    ensures { λ _. ⌜ now (out .exit) ≡ overlay (painted (now (font .entry)) view (cellsFrom (view .left) (now (words .entry)) pen)) (now (out .entry)) ⌝ }
+    ensures { λ _. ⌜ now (out .exit) ≡ overlay (painted (now (font .entry)) view (cellsFrom (view .left) (kindsOf (now (words .entry))) pen)) (now (out .entry)) ⌝ }
 {
     if words.len() == 0 {
         return;
@@ -249,7 +250,7 @@ fn below(y: Lines, size: usize, spacing: Lines) -> Lines
 
 // A word where the pen is.
 fn place(word: u16, pen: Pen) -> Placed
-    ensures { λ r. ⌜ (r ≡ placedWord word pen) × Sound (r .kind) ⌝ }
+    ensures { λ r. ⌜ (r ≡ placedAt pen (kindOf word)) × Sound (r .kind) ⌝ }
 {
     let kind = decode(word);
     let x = pen.x;

@@ -6,7 +6,7 @@ use Rattle.laws.specs.Lists.{tabulate}
 use Rattle.laws.specs.Placing.{cellHas}
 use Rattle.laws.specs.Within.{within}
 use Rattle.font.specs.Font.{isFont}
-use Rattle.display.specs.Words.{kindOf}
+use Rattle.display.specs.Words.{kindOf, kindsOf}
 use Rattle.judging.specs.Judging.{answerOf}
 use Rattle.display.specs.Cells.{kindCell, afterWord, cellsFrom}
 use Rattle.display.specs.Picture.{shownDot, dotAt}
@@ -14,5 +14,5 @@ use Rattle.display.specs.Painting.{dotOf, leftBy}
 use Rattle.pictures.specs.Example.{Example}
 
 pub example : Example
-unfolding kindOf leftBy dotOf dotAt firstShown cellHas cellsFrom kindCell afterWord shownDot tabulate answerOf within isFont
+unfolding kindOf kindsOf leftBy dotOf dotAt firstShown cellHas cellsFrom kindCell afterWord shownDot tabulate answerOf within isFont
 example = (refl, (refl, (refl, refl)))

@@ -1,0 +1,3 @@
+pub mod Screen
+pub mod Picture
+pub mod Example

@@ -1,0 +1,56 @@
+-- The same picture: document 02, M-100. Take a screen whose characters name drawn glyphs. Painted with each glyph's cell in its place, it is the picture
+-- made of the glyphs themselves. Said of any font and any cells that show the glyphs: how they were found does not matter here.
+-- Drawn glyphs lie in a list of rows as the cells of a font do, 18 rows each, so `fontDot glyphs` draws them.
+-- Assumes nothing.
+use Prim.Native.Nat.{ℕ, _<_}
+use mathlib.Core.Path.{_≡_}
+use mathlib.Core.Bool.{true, not}
+use mathlib.Core.List.{List, _++_, map}
+use lib.Dec.{ltb, eqb}
+use lib.ListN.{length, drop}
+use Rattle.laws.specs.Pick.{pick}
+use Rattle.laws.specs.Said.{Said, accepted, refused}
+use Rattle.font.specs.Font.{fontCells, cellRows, cellColumns, isFont, fontDot}
+use Rattle.units.specs.declared.Dots.{Dots}
+use Rattle.units.specs.declared.Lines.{Lines}
+use Rattle.judging.specs.declared.Settings.{Settings}
+use Rattle.judging.specs.Judging.{mostRatio, inRange, areWords, onScreen, answerOf}
+use Rattle.display.specs.declared.Kind.{Kind}
+use Rattle.display.specs.Words.{kindsOf}
+use Rattle.display.specs.Painting.{lineOf, leftBy}
+use Rattle.redrawn.specs.Screen.{isScreen, wordsFor, inCell}
+
+-- a font shows glyphs 0 to n - 1: each has a cell of the font, and the cell has the glyph's dots
+pub record Shows (glyphs : List ℕ) (n : ℕ) (font : List ℕ) (cell : ℕ → ℕ) : Type 0 where
+  pub whole : isFont font ≡ true
+  pub there : (g : ℕ) → g < n → cell g < fontCells
+  pub dots : (g l j : ℕ) → g < n → l < cellRows → j < cellColumns → fontDot font (cell g) l j ≡ fontDot glyphs g l j
+
+-- what a call answers that has right words and a right font: its settings, its line and width, and the room decide
+unfoldable pub answerBy : Settings → Lines → Dots → ℕ → Said
+answerBy s line width room =
+    pick (not (inRange s))
+    (refused 1 0)
+    (pick (eqb (s .ratio) mostRatio)
+    (refused 2 0)
+    (pick (not (onScreen line width)) (refused 5 0) (pick (ltb room (width .0)) (refused 6 0) (accepted 0))))
+
+-- what painting leaves of a screen of glyphs, by the words for its items
+pub record SamePicture (glyphs font : List ℕ) (cell : ℕ → ℕ) (items : List Kind) : Type 0 where
+  -- they are words, and say the items, with each glyph's cell in its place
+  pub words : areWords (wordsFor cell items) ≡ true
+  pub say : kindsOf (wordsFor cell items) ≡ map (inCell cell) items
+  -- so no call is refused for them, nor for the font
+  pub answer : (s : Settings) (line : Lines) (width : Dots) (room : ℕ) → answerOf (wordsFor cell items) font s line width room ≡ answerBy s line width room
+  -- an accepted call leaves the line of the glyphs themselves, and what was past the width
+  pub painted : (s : Settings) (frame : ℕ) (line : Lines) (width : Dots) (out : List ℕ) → answerBy s line width (length out) .number ≡ 0
+      → leftBy (wordsFor cell items) font s frame line width out ≡ lineOf items (fontDot glyphs) s frame line width ++ drop (width .0) out
+  -- a refused one leaves all as it was
+  pub untouched : (s : Settings) (frame : ℕ) (line : Lines) (width : Dots) (out : List ℕ) → (answerBy s line width (length out) .number ≡ 0 → ⊥)
+      → leftBy (wordsFor cell items) font s frame line width out ≡ out
+
+-- it is so of every screen of glyphs that a font shows
+abbrev pub SamePictures : Type 0
+SamePictures =
+    (glyphs : List ℕ) (n : ℕ) (font : List ℕ) (cell : ℕ → ℕ) → Shows glyphs n font cell
+    → (items : List Kind) → isScreen n items ≡ true → SamePicture glyphs font cell items
