@@ -1,4 +1,4 @@
--- Two glyphs are of one pattern exactly if their dots agree, and, where no row is above 4095, exactly if their rows do: twelve bits make a row.
+-- Two glyphs are of one pattern exactly if their dots agree, and, if none of their rows is above 4095, exactly if their rows do: twelve bits make a row.
 -- Assumes nothing.
 use Prim.Native.Nat.{ℕ, zero, suc, _+_, _-_, _*_, _/_, _%_, _^_, _<_, _≤_}
 use mathlib.Core.Path.{_≡_, refl, sym, _∙_, ap}
@@ -8,12 +8,9 @@ use native.Mathlib.Nat.{pow-succ', div-div-eq-div-mul, div-one}
 use native.Mathlib.Omega.{arith}
 use borrow.Author.Tests.{eqb-true, eqb-false}
 use lib.Dec.{eqb}
-use lib.ListN.{getD}
 use Rattle.laws.specs.Lists.{upto}
-use Rattle.laws.specs.Within.{within}
 use Rattle.laws.proofs.Tests.{upto-at, upto-all}
 use Rattle.font.specs.Font.{cellRows, cellColumns, mostRow, rowOf, bitSet, fontDot}
-use Rattle.font.proofs.Each.{within-at}
 use Rattle.packer.specs.Glyphs.{samePattern, SameDots}
 
 agree-same : (a b : Bool) → agree a b ≡ true → a ≡ b
@@ -82,6 +79,6 @@ module _ (glyphs : List ℕ) where
   pub rows-same : (g h : ℕ) → ((l : ℕ) → l < cellRows → rowOf glyphs g l ≡ rowOf glyphs h l) → samePattern glyphs g h ≡ true
   rows-same g h e = dots-same glyphs g h (λ l j a b. ap (λ (r : ℕ). bitSet r j) (e l a))
 
-  pub same-rows : within mostRow glyphs ≡ true → (g h : ℕ) → samePattern glyphs g h ≡ true → (l : ℕ) → l < cellRows → rowOf glyphs g l ≡ rowOf glyphs h l
-  same-rows small g h e l a =
-      row-same (rowOf glyphs g l) (rowOf glyphs h l) (within-at mostRow glyphs small (18 * g + l)) (within-at mostRow glyphs small (18 * h + l)) (λ j b. same-dots glyphs g h e l j a b)
+  pub same-rows : (g h : ℕ) → ((l : ℕ) → l < cellRows → rowOf glyphs g l ≤ mostRow) → ((l : ℕ) → l < cellRows → rowOf glyphs h l ≤ mostRow)
+      → samePattern glyphs g h ≡ true → (l : ℕ) → l < cellRows → rowOf glyphs g l ≡ rowOf glyphs h l
+  same-rows g h small-g small-h e l a = row-same (rowOf glyphs g l) (rowOf glyphs h l) (small-g l a) (small-h l a) (λ j b. same-dots glyphs g h e l j a b)

@@ -38,13 +38,13 @@ row-left glyphs i le =
 
 module _ (glyphs firsts : List ℕ) (used : ℕ) (font : List ℕ) (p : ToLay glyphs firsts used font) where
   -- the rows that are copied are there, and so is their place
-  pub lay-there : (c : ℕ) → c < used → (18 * getD firsts c 0 + 18 ≤ length glyphs) × (18 * c + 18 ≤ length font)
+  pub lay-there : (c : ℕ) → c < used → (getD firsts c 0 + 18 ≤ length glyphs) × (18 * c + 18 ≤ length font)
   lay-there c l =
-      let t = taken glyphs (p .glyphs-are) in
+      let t = taken glyphs (p .are) in
       let k = known glyphs (glyphsIn glyphs) c (omega arith) (let a = p .all in omega arith) in
       (omega (arith, k .below, t .whole, p .first c l), omega (arith, p .few, p .room))
 
-  pub lay-more : (c : ℕ) (before after : List ℕ) → c < used → Copied glyphs (18 * getD firsts c 0) (18 * c) before after
+  pub lay-more : (c : ℕ) (before after : List ℕ) → c < used → Copied glyphs (getD firsts c 0) (18 * c) before after
       → Filled (fontRow glyphs) (18 * c) before font → Filled (fontRow glyphs) (18 * (c + 1)) after font
   lay-more c before after l copied f =
       record {
@@ -57,9 +57,9 @@ module _ (glyphs firsts : List ℕ) (used : ℕ) (font : List ℕ) (p : ToLay gl
       go k h (yes d) = copied .left k d ∙ f .done k d
       go k h (no d) =
           let at : 18 * c + (k - 18 * c) ≡ k = omega arith in
-          let first : getD firsts c 0 ≡ firstIn glyphs c = p .first c l in
+          let first : getD firsts c 0 ≡ 18 * firstIn glyphs c = p .first c l in
           ap (λ (i : ℕ). getD after i 0) (sym at) ∙ copied .here (k - 18 * c) (omega arith)
-          ∙ ap (λ (g : ℕ). rowOf glyphs g (k - 18 * c)) first
+          ∙ ap (λ (x : ℕ). getD glyphs (x + (k - 18 * c)) 0) first
           ∙ sym (row-of glyphs c (k - 18 * c) (let a = p .all in omega arith) (omega arith)) ∙ ap (fontRow glyphs) at
 
   -- and the rest cleared

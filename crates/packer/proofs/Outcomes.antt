@@ -1,6 +1,6 @@
 -- What a call answers and leaves, by the tests that decide it.
 -- Assumes nothing.
-use Prim.Native.Nat.{ℕ, _<_, _≤_}
+use Prim.Native.Nat.{ℕ, _-_, _<_, _≤_}
 use mathlib.Core.Path.{_≡_, sym, _∙_, ap}
 use mathlib.Core.Bool.{true, false}
 use mathlib.Core.List.{List, _++_}
@@ -15,7 +15,7 @@ use Rattle.laws.proofs.Lists.{tabulate-same}
 use Rattle.font.specs.Font.{fontCells, fontRows}
 use Rattle.packer.specs.Glyphs.{glyphsIn, patternsIn, cellFor, packedFont}
 use Rattle.packer.specs.Packing.{areGlyphs, roomFor, answerOf, packs, fontLeft, cellsLeft}
-use Rattle.packer.specs.Steps.{Numbered}
+use Rattle.packer.specs.Steps.{AllNumbered}
 
 module _ (glyphs font cells : List ℕ) where
   -- the numbers
@@ -65,11 +65,12 @@ module _ (glyphs font cells : List ℕ) where
       let are : packs glyphs font cells ≡ true = ap (λ (s : Said). eqb (s .number) 0) (sym told) in
       simp are
 
-  pub leaves-cells : (count used : ℕ) (firsts numbers : List ℕ) → Numbered glyphs used firsts numbers → used ≤ fontCells → count ≡ glyphsIn glyphs
+  pub leaves-cells : (count used : ℕ) (firsts numbers : List ℕ) → AllNumbered glyphs firsts numbers used → count ≡ glyphsIn glyphs
       → accepted (patternsIn glyphs) ≡ answerOf glyphs (length font) (length cells)
-      → tabulate count (λ k. getD numbers k 0) ++ drop count cells ≡ cellsLeft glyphs font cells
+      → tabulate count (λ k. getD numbers k 0 - 1) ++ drop count cells ≡ cellsLeft glyphs font cells
   unfolding cellsLeft
-  leaves-cells count used firsts numbers n few all told =
+  leaves-cells count used firsts numbers n all told =
       let are : packs glyphs font cells ≡ true = ap (λ (s : Said). eqb (s .number) 0) (sym told) in
-      ap (λ (n : ℕ). tabulate n (λ k. getD numbers k 0) ++ drop n cells) all
-      ∙ ap (λ (l : List ℕ). l ++ drop (glyphsIn glyphs) cells) (tabulate-same (glyphsIn glyphs) (λ k. getD numbers k 0) (cellFor glyphs) (n .cell few)) ∙ simp are
+      let each : (g : ℕ) → g < glyphsIn glyphs → getD numbers g 0 - 1 ≡ cellFor glyphs g = λ g l. omega (arith, n .cell g l) in
+      ap (λ (n : ℕ). tabulate n (λ k. getD numbers k 0 - 1) ++ drop n cells) all
+      ∙ ap (λ (l : List ℕ). l ++ drop (glyphsIn glyphs) cells) (tabulate-same (glyphsIn glyphs) (λ k. getD numbers k 0 - 1) (cellFor glyphs) each) ∙ simp are

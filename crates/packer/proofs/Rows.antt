@@ -1,7 +1,7 @@
 -- Rows copied from one place to another, and rows made 0, one by one.
 -- Assumes nothing.
 use Prim.Native.Nat.{ℕ, _+_, _<_, _≤_}
-use mathlib.Core.Path.{_≡_, refl, _∙_, ap}
+use mathlib.Core.Path.{_≡_, refl, sym, _∙_, ap}
 use mathlib.Core.List.{List}
 use native.Mathlib.Decide.{ℕ-discrete}
 use native.Mathlib.Omega.{arith}
@@ -20,22 +20,21 @@ module _ (glyphs : List ℕ) (from at : ℕ) where
   pub part-none : (l : List ℕ) → Part glyphs from at 0 l l
   part-none l = record { size = refl; here = λ l h. absurd (omega arith); left = λ k h. refl; right = λ k h. refl }
 
-  pub part-more : (n : ℕ) (before after : List ℕ) → at + n < length before → Part glyphs from at n before after
-      → Part glyphs from at (n + 1) before (set after (at + n) (getD glyphs (from + n) 0))
-  part-more n before after h p =
+  pub part-more : (n : ℕ) (before after : List ℕ) (k v : ℕ) → at + n < length before → k ≡ at + n → v ≡ getD glyphs (from + n) 0
+      → Part glyphs from at n before after → Part glyphs from at (n + 1) before (set after k v)
+  part-more n before after k v h e is p =
       record {
-        size = length-set after (at + n) v ∙ p .size;
+        size = length-set after k v ∙ p .size;
         here = λ l m. go l m (ℕ-discrete l n);
-        left = λ k m. getD-set-other after (at + n) k v 0 (omega arith) ∙ p .left k m;
-        right = λ k m. getD-set-other after (at + n) k v 0 (omega arith) ∙ p .right k (omega arith);
+        left = λ i m. getD-set-other after k i v 0 (omega arith) ∙ p .left i m;
+        right = λ i m. getD-set-other after k i v 0 (omega arith) ∙ p .right i (omega arith);
       }
     where
-      v : ℕ
-      v = getD glyphs (from + n) 0
-
-      go : (l : ℕ) → l < n + 1 → Dec (l ≡ n) → getD (set after (at + n) v) (at + l) 0 ≡ getD glyphs (from + l) 0
-      go l m (yes d) = rw d (getD-set-same after (at + n) v 0 (omega (arith, p .size)))
-      go l m (no d) = getD-set-other after (at + n) (at + l) v 0 (omega arith) ∙ p .here l (omega arith)
+      go : (l : ℕ) → l < n + 1 → Dec (l ≡ n) → getD (set after k v) (at + l) 0 ≡ getD glyphs (from + l) 0
+      go l m (yes d) =
+          let here : at + l ≡ k = omega arith in
+          ap (λ (i : ℕ). getD (set after k v) i 0) here ∙ getD-set-same after k v 0 (omega (arith, p .size)) ∙ is ∙ ap (λ (i : ℕ). getD glyphs (from + i) 0) (sym d)
+      go l m (no d) = getD-set-other after k (at + l) v 0 (omega arith) ∙ p .here l (omega arith)
 
   pub part-all : (n : ℕ) (before after : List ℕ) → n ≡ 18 → Part glyphs from at n before after → Copied glyphs from at before after
   part-all n before after e p =
@@ -67,3 +66,8 @@ blank-more from i before after le h b =
 pub blank-all : (from i : ℕ) (before after : List ℕ) → i ≡ 1116 → Blank from i before after → Cleared from before after
 blank-all from i before after e b =
     record { size = b .size; left = b .left; here = λ k l m. b .here k l (omega arith); right = λ k m. b .right k (omega arith) }
+
+-- rows copied to a place and from there to another
+pub copied-through : {glyphs between between₀ before after : List ℕ} {from at : ℕ} → Copied glyphs from 0 between₀ between → Copied between 0 at before after → Copied glyphs from at before after
+copied-through taken put =
+    record { size = put .size; here = λ l h. put .here l h ∙ taken .here l h; left = put .left; right = put .right }

@@ -13,9 +13,13 @@ use Rattle.packer.specs.declared.Packed.{Packed}
 use Rattle.packer.specs.declared.Packed.the-variants.{Done, NotGlyphs, TooManyPatterns, NoRoom}
 use Rattle.packer.specs.Glyphs.{mostGlyphs, glyphsIn, patternsIn, packedFont, packedCells}
 
--- whole glyphs, 256 at most, and no row above 4095
+-- whole glyphs, 256 at most
+unfoldable pub areWhole : List ℕ → Bool
+areWhole glyphs = both (eqb (length glyphs % cellRows) 0) (leb (glyphsIn glyphs) mostGlyphs)
+
+-- and no row above 4095
 unfoldable pub areGlyphs : List ℕ → Bool
-areGlyphs glyphs = both (eqb (length glyphs % cellRows) 0) (both (leb (glyphsIn glyphs) mostGlyphs) (within mostRow glyphs))
+areGlyphs glyphs = both (areWhole glyphs) (within mostRow glyphs)
 
 -- room for the rows of a font, and for a cell's number for each glyph
 abbrev pub roomFor : List ℕ → ℕ → ℕ → Bool

@@ -1,19 +1,24 @@
 // The packer: drawn glyphs into the cells of a font, glyphs that agree in every dot into one cell.
 ghost use mathlib.Core.Path.{_≡_};
 ghost use mathlib.Core.List.{_++_};
-ghost use Prim.Native.Nat.{_+_, _<_, _≤_};
+ghost use Prim.Native.Nat.{ℕ, _+_, _-_, _<_, _≤_};
 ghost use lib.ListN.{length, getD, drop};
 ghost use Rattle.laws.specs.Lists.{tabulate};
 ghost use Rattle.font.specs.Font.{cellRows, fontRows};
-ghost use Rattle.packer.specs.Glyphs.{samePattern, cellFor, packedFont};
-ghost use Rattle.packer.specs.Packing.{areGlyphs, answerOf, said, fontLeft, cellsLeft};
-ghost use Rattle.packer.specs.Steps.{fourAt, spots, spotOf, OneOf, Met, ToNumber, Numbered, ToLay, Copied, Cleared};
+ghost use Rattle.packer.specs.Glyphs.{packedFont};
+ghost use Rattle.packer.specs.Packing.{areWhole, answerOf, said, fontLeft, cellsLeft};
+ghost use Rattle.packer.specs.Steps.{twoAt, fourAt, withTwice, mixedSpot, spotAt, sameRows, narrowAt, partsNarrow, overOf, Chained, Walk, Found, ToNumber, Numbered, AllNumbered, ToLay, Copied, Cleared, ToLayCells};
 
 // The most glyphs that are packed.
 pub const MOST_GLYPHS: usize = 256;
 
 // The spots that patterns are kept at.
-const SPOTS: usize = 251;
+const SPOTS: usize = 256;
+
+// What a row, and two rows, are counted up to in a number of 64 bits: its parts, and its halves.
+const PART: u64 = 65536;
+
+const HALF: u64 = 4294967296;
 
 pub enum Packed {
     // How many cells the glyphs take.
@@ -26,52 +31,48 @@ pub enum Packed {
     NoRoom,
 }
 
-// The font of the glyphs, into the first 1,116 rows lent, and the cell of each glyph, into as many places. The patterns are counted before
+// What comes of numbering the patterns: how many there are, or more than a font has cells, or a row above 4095.
+enum Numbering {
+    All(usize),
+    TooMany,
+    TooWide,
+}
+
+// The font of the glyphs, into the first 1,116 rows lent, and the cell of each glyph, into as many places. The patterns are numbered before
 // anything is written.
 pub fn pack(glyphs: &[u16], font: &mut [u16], cells: &mut [u8]) -> Packed
     ensures { λ r. ⌜ (said r ≡ answerOf (now (glyphs .entry)) (length (now (font .entry))) (length (now (cells .entry))))
         × (now (font .exit) ≡ fontLeft (now (glyphs .entry)) (now (font .entry)) (now (cells .entry)))
         × (now (cells .exit) ≡ cellsLeft (now (glyphs .entry)) (now (font .entry)) (now (cells .entry))) ⌝ }
 {
-    if !are_glyphs(glyphs) {
+    if !are_whole(glyphs) {
         return Packed::NotGlyphs;
     }
-    let count = glyphs.len() / font::CELL_ROWS;
-    let mut firsts = [0u8; font::FONT_CELLS];
+    let mut firsts = [0u16; font::FONT_CELLS];
     let mut numbers = [0u8; MOST_GLYPHS];
-    let used = number(glyphs, &mut firsts, &mut numbers);
-    if font::FONT_CELLS < used {
-        return Packed::TooManyPatterns;
+    let numbering = number(glyphs, &mut firsts, &mut numbers);
+    match numbering {
+        Numbering::TooWide => Packed::NotGlyphs,
+        Numbering::TooMany => Packed::TooManyPatterns,
+        Numbering::All(used) => lay(glyphs, &firsts, &numbers, used, font, cells),
     }
-    if font.len() < font::FONT_ROWS {
-        return Packed::NoRoom;
-    }
-    if cells.len() < count {
-        return Packed::NoRoom;
-    }
-    lay_font(glyphs, &firsts, used, font);
-    lay_cells(&numbers, count, cells);
-    let taken = used as u32;
-    Packed::Done(taken)
 }
 
-// Whether these rows are glyphs that can be packed.
-fn are_glyphs(glyphs: &[u16]) -> bool
-    ensures { λ r. ⌜ r ≡ areGlyphs (now (glyphs .entry)) ⌝ }
+// Whether these rows are whole glyphs, and not too many.
+fn are_whole(glyphs: &[u16]) -> bool
+    ensures { λ r. ⌜ r ≡ areWhole (now (glyphs .entry)) ⌝ }
 {
     if glyphs.len() % font::CELL_ROWS != 0 {
         return false;
     }
-    if MOST_GLYPHS < glyphs.len() / font::CELL_ROWS {
-        return false;
-    }
-    font::all_within(glyphs, font::MOST_ROW)
+    glyphs.len() / font::CELL_ROWS <= MOST_GLYPHS
 }
 
-// How many patterns there are, with the first glyph of each and the cell of each glyph; one more than a font has cells where there are too many.
-fn number(glyphs: &[u16], firsts: &mut [u8], numbers: &mut [u8]) -> usize
+// The rows where the first glyph of each pattern starts, and the cell of each glyph and one. A glyph that agrees with an earlier one has rows as
+// narrow as that one's, so that only new patterns are looked at for rows above 4095.
+fn number(glyphs: &[u16], firsts: &mut [u16], numbers: &mut [u8]) -> Numbering
     requires { ⌜ ToNumber (now glyphs) (now firsts) (now numbers) ⌝ }
-    ensures { λ r. ⌜ Numbered (now (glyphs .entry)) r (now (firsts .exit)) (now (numbers .exit)) ⌝ }
+    ensures { λ r. ⌜ Numbered (now (glyphs .entry)) (now (firsts .exit)) (now (numbers .exit)) r ⌝ }
 {
     let count = glyphs.len() / font::CELL_ROWS;
     let mut heads = [0u8; SPOTS];
@@ -79,60 +80,105 @@ fn number(glyphs: &[u16], firsts: &mut [u8], numbers: &mut [u8]) -> usize
     let mut used = 0;
     let mut g = 0;
     while g < count {
-        let spot = spot_of(glyphs, g);
-        let head = heads[spot];
-        let cell = find(glyphs, firsts, &nexts, head, used, g);
-        if cell == used {
-            if used == font::FONT_CELLS {
-                return font::FONT_CELLS + 1;
+        let at = font::CELL_ROWS * g;
+        let spot = spot_of(glyphs, at);
+        let head = heads[spot] as usize;
+        let mut found = find(glyphs, firsts, &nexts, head, at);
+        if found == 0 {
+            if !narrow(glyphs, at) {
+                return Numbering::TooWide;
             }
-            firsts[used] = g as u8;
-            nexts[used] = head;
+            if used == font::FONT_CELLS {
+                return too_many(glyphs);
+            }
+            firsts[used] = at as u16;
+            nexts[used] = head as u8;
             used += 1;
-            heads[spot] = used as u8;
+            found = used;
+            heads[spot] = found as u8;
         }
-        numbers[g] = cell as u8;
+        numbers[g] = found as u8;
         g += 1;
     }
-    used
+    Numbering::All(used)
 }
 
-// The cell of glyph g: that of the pattern met with the same dots, or else the next one.
-fn find(glyphs: &[u16], firsts: &[u8], nexts: &[u8], head: u8, used: usize, g: usize) -> usize
-    requires { ⌜ Met (now glyphs) g used head (now firsts) (now nexts) ⌝ }
-    ensures { λ r. ⌜ r ≡ cellFor (now (glyphs .entry)) g ⌝ }
+// A glyph finds no cell: too many patterns, unless a later glyph is none.
+fn too_many(glyphs: &[u16]) -> Numbering
+    ensures { λ r. ⌜ r ≡ overOf (now (glyphs .entry)) ⌝ }
 {
-    let mut next = head as usize;
+    if font::all_within(glyphs, font::MOST_ROW) {
+        Numbering::TooMany
+    } else {
+        Numbering::TooWide
+    }
+}
+
+// The cell, and one, of the pattern with the rows from `at` on, or 0: first the last pattern of its spot, which it mostly is, then those before it.
+fn find(glyphs: &[u16], firsts: &[u16], nexts: &[u8], head: usize, at: usize) -> usize
+    requires { ⌜ Chained (now glyphs) (now firsts) (now nexts) head at ⌝ }
+    ensures { λ r. ⌜ ((used : ℕ) → Walk (now (glyphs .entry)) (now (firsts .entry)) (now (nexts .entry)) at used head → Found (now (glyphs .entry)) at used r) ⌝ }
+{
+    if head == 0 {
+        return 0;
+    }
+    let cell = head - 1;
+    let first = firsts[cell] as usize;
+    if same(glyphs, first, at) {
+        return head;
+    }
+    let next = nexts[cell] as usize;
+    further(glyphs, firsts, nexts, next, at)
+}
+
+// The same from a later pattern of the chain on.
+fn further(glyphs: &[u16], firsts: &[u16], nexts: &[u8], head: usize, at: usize) -> usize
+    requires { ⌜ Chained (now glyphs) (now firsts) (now nexts) head at ⌝ }
+    ensures { λ r. ⌜ ((used : ℕ) → Walk (now (glyphs .entry)) (now (firsts .entry)) (now (nexts .entry)) at used head → Found (now (glyphs .entry)) at used r) ⌝ }
+{
+    let mut next = head;
     while next != 0 {
         let cell = next - 1;
         let first = firsts[cell] as usize;
-        if same(glyphs, first, g) {
-            return cell;
+        if same(glyphs, first, at) {
+            return next;
         }
         next = nexts[cell] as usize;
     }
-    used
+    0
 }
 
-// The spot of a glyph: equal glyphs have the same one.
-fn spot_of(glyphs: &[u16], g: usize) -> usize
-    requires { ⌜ OneOf (now glyphs) g ⌝ }
-    ensures { λ r. ⌜ r ≡ spotOf (now (glyphs .entry)) g ⌝ }
+// Where a glyph with these rows is looked for: a number that its rows alone decide, and that is different for most patterns. Sums are cut to 64 bits.
+fn spot_of(glyphs: &[u16], at: usize) -> usize
+    requires { ⌜ at + cellRows ≤ length (now glyphs) ⌝ }
+    ensures { λ r. ⌜ r ≡ spotAt (now (glyphs .entry)) at ⌝ }
 {
-    let at = font::CELL_ROWS * g;
-    let upper = four(glyphs, at) + 2 * four(glyphs, at + 4);
-    let middle = 3 * four(glyphs, at + 8);
-    let lower = 4 * four(glyphs, at + 12) + 5 * four(glyphs, at + 14);
-    ((upper + (middle + lower)) % SPOTS as u64) as usize
+    let upper = with_twice(four(glyphs, at), four(glyphs, at + 4));
+    let lower = with_twice(four(glyphs, at + 8), four(glyphs, at + 12));
+    let sum = with_twice(with_twice(upper, lower), lower);
+    mixed(std::num::wrapping_add_u64(sum, two(glyphs, at + 16)))
 }
 
-// Whether two glyphs agree in every dot. Rows are compared four at a time, the last four of them with two that were compared already.
-fn same(glyphs: &[u16], a: usize, b: usize) -> bool
-    requires { ⌜ OneOf (now glyphs) a × OneOf (now glyphs) b ⌝ }
-    ensures { λ r. ⌜ r ≡ samePattern (now (glyphs .entry)) a b ⌝ }
+// One number and twice another, cut to 64 bits.
+fn with_twice(one: u64, other: u64) -> u64
+    ensures { λ r. ⌜ r ≡ withTwice one other ⌝ }
 {
-    let x = font::CELL_ROWS * a;
-    let y = font::CELL_ROWS * b;
+    std::num::wrapping_add_u64(std::num::wrapping_add_u64(one, other), other)
+}
+
+// A spot by all bits of a number: eight from the middle of its halves' product.
+fn mixed(number: u64) -> usize
+    ensures { λ r. ⌜ r ≡ mixedSpot number ⌝ }
+{
+    let product = (number % HALF) * (number / HALF);
+    (product / 1073741824 % 256) as usize
+}
+
+// Whether two glyphs have the same rows.
+fn same(glyphs: &[u16], x: usize, y: usize) -> bool
+    requires { ⌜ (x + cellRows ≤ length (now glyphs)) × (y + cellRows ≤ length (now glyphs)) ⌝ }
+    ensures { λ r. ⌜ r ≡ sameRows (now (glyphs .entry)) x y ⌝ }
+{
     let mut l = 0;
     while l < 16 {
         if four(glyphs, x + l) != four(glyphs, y + l) {
@@ -140,17 +186,51 @@ fn same(glyphs: &[u16], a: usize, b: usize) -> bool
         }
         l += 4;
     }
-    four(glyphs, x + 14) == four(glyphs, y + 14)
+    two(glyphs, x + 16) == two(glyphs, y + 16)
+}
+
+// Whether no row of a glyph is above 4095: whether in the bits of all together no part is.
+fn narrow(glyphs: &[u16], at: usize) -> bool
+    requires { ⌜ at + cellRows ≤ length (now glyphs) ⌝ }
+    ensures { λ r. ⌜ r ≡ narrowAt (now (glyphs .entry)) at ⌝ }
+{
+    let upper = four(glyphs, at) | four(glyphs, at + 4);
+    let lower = four(glyphs, at + 8) | four(glyphs, at + 12);
+    let last = two(glyphs, at + 16);
+    parts_narrow((upper | lower) | last)
+}
+
+// Whether none of the four parts of a number is above 4095.
+fn parts_narrow(number: u64) -> bool
+    ensures { λ r. ⌜ r ≡ partsNarrow number ⌝ }
+{
+    let most = font::MOST_ROW as u64;
+    if most < number % PART {
+        return false;
+    }
+    if most < number / PART % PART {
+        return false;
+    }
+    if most < number / HALF % PART {
+        return false;
+    }
+    number / HALF / PART <= most
 }
 
 // Four rows as one number, each a part of 16 bits: on a processor it is one load.
 fn four(rows: &[u16], at: usize) -> u64
     requires { ⌜ at + 4 ≤ length (now rows) ⌝ }
-    ensures { λ r. ⌜ r ≡ fourAt (now (rows .entry)) at ⌝ }
+    ensures { λ r. ⌜ (r ≡ fourAt (now (rows .entry)) at) × (r < 18446744073709551616) ⌝ }
 {
-    let low = row(rows, at) + row(rows, at + 1) * 65536;
-    let high = row(rows, at + 2) + row(rows, at + 3) * 65536;
-    low + high * 4294967296
+    two(rows, at) + two(rows, at + 2) * HALF
+}
+
+// Two rows.
+fn two(rows: &[u16], at: usize) -> u64
+    requires { ⌜ at + 2 ≤ length (now rows) ⌝ }
+    ensures { λ r. ⌜ (r ≡ twoAt (now (rows .entry)) at) × (r < 4294967296) ⌝ }
+{
+    row(rows, at) + row(rows, at + 1) * PART
 }
 
 fn row(rows: &[u16], at: usize) -> u64
@@ -160,33 +240,75 @@ fn row(rows: &[u16], at: usize) -> u64
     rows[at] as u64
 }
 
+// The rooms are tested, and the font and the cells written.
+fn lay(
+    glyphs: &[u16],
+    firsts: &[u16],
+    numbers: &[u8],
+    used: usize,
+    font: &mut [u16],
+    cells: &mut [u8],
+) -> Packed
+    requires { ⌜ AllNumbered (now glyphs) (now firsts) (now numbers) used ⌝ }
+    ensures { λ r. ⌜ (said r ≡ answerOf (now (glyphs .entry)) (length (now (font .entry))) (length (now (cells .entry))))
+        × (now (font .exit) ≡ fontLeft (now (glyphs .entry)) (now (font .entry)) (now (cells .entry)))
+        × (now (cells .exit) ≡ cellsLeft (now (glyphs .entry)) (now (font .entry)) (now (cells .entry))) ⌝ }
+{
+    let count = glyphs.len() / font::CELL_ROWS;
+    if font.len() < font::FONT_ROWS {
+        return Packed::NoRoom;
+    }
+    if cells.len() < count {
+        return Packed::NoRoom;
+    }
+    lay_font(glyphs, firsts, used, font);
+    lay_cells(numbers, count, cells);
+    let taken = used as u32;
+    Packed::Done(taken)
+}
+
 // The font: the rows of each pattern, and 0 from there on.
-fn lay_font(glyphs: &[u16], firsts: &[u8], used: usize, font: &mut [u16])
+fn lay_font(glyphs: &[u16], firsts: &[u16], used: usize, font: &mut [u16])
     requires { ⌜ ToLay (now glyphs) (now firsts) used (now font) ⌝ }
-    ensures { λ _. ⌜ now (font .exit) ≡ packedFont (now (glyphs .entry)) ++ drop 1116 (now (font .entry)) ⌝ }
+    ensures { λ _. ⌜ now (font .exit) ≡ packedFont (now (glyphs .entry)) ++ drop fontRows (now (font .entry)) ⌝ }
 {
     let mut cell = 0;
     while cell < used {
         let first = firsts[cell] as usize;
-        copy_cell(
-            glyphs,
-            font::CELL_ROWS * first,
-            font,
-            font::CELL_ROWS * cell,
-        );
+        copy_cell(glyphs, first, font, font::CELL_ROWS * cell);
         cell += 1;
     }
     clear(font, font::CELL_ROWS * used);
 }
 
-// The rows of a cell.
+// The rows of a cell, by way of a copy: glyphs and font never overlap, which a compiler is not told, and so it can move many rows at once.
 fn copy_cell(glyphs: &[u16], from: usize, font: &mut [u16], at: usize)
     requires { ⌜ (from + cellRows ≤ length (now glyphs)) × (at + cellRows ≤ length (now font)) ⌝ }
     ensures { λ _. ⌜ Copied (now (glyphs .entry)) from at (now (font .entry)) (now (font .exit)) ⌝ }
 {
+    let mut rows = [0u16; font::CELL_ROWS];
+    take_rows(glyphs, from, &mut rows);
+    put_rows(&rows, font, at);
+}
+
+fn take_rows(glyphs: &[u16], from: usize, rows: &mut [u16])
+    requires { ⌜ (from + cellRows ≤ length (now glyphs)) × (cellRows ≤ length (now rows)) ⌝ }
+    ensures { λ _. ⌜ Copied (now (glyphs .entry)) from 0 (now (rows .entry)) (now (rows .exit)) ⌝ }
+{
     let mut l = 0;
     while l < font::CELL_ROWS {
-        font[at + l] = glyphs[from + l];
+        rows[l] = glyphs[from + l];
+        l += 1;
+    }
+}
+
+fn put_rows(rows: &[u16], font: &mut [u16], at: usize)
+    requires { ⌜ (cellRows ≤ length (now rows)) × (at + cellRows ≤ length (now font)) ⌝ }
+    ensures { λ _. ⌜ Copied (now (rows .entry)) 0 at (now (font .entry)) (now (font .exit)) ⌝ }
+{
+    let mut l = 0;
+    while l < font::CELL_ROWS {
+        font[at + l] = rows[l];
         l += 1;
     }
 }
@@ -203,14 +325,14 @@ fn clear(font: &mut [u16], from: usize)
     }
 }
 
-// The numbers of the cells, one for each glyph.
+// The cells, one for each glyph: a number that was kept is one more.
 fn lay_cells(numbers: &[u8], count: usize, cells: &mut [u8])
-    requires { ⌜ (count ≤ length (now numbers)) × (count ≤ length (now cells)) ⌝ }
-    ensures { λ _. ⌜ now (cells .exit) ≡ tabulate count (λ k. getD (now (numbers .entry)) k 0) ++ drop count (now (cells .entry)) ⌝ }
+    requires { ⌜ ToLayCells (now numbers) count (now cells) ⌝ }
+    ensures { λ _. ⌜ now (cells .exit) ≡ tabulate count (λ k. getD (now (numbers .entry)) k 0 - 1) ++ drop count (now (cells .entry)) ⌝ }
 {
     let mut i = 0;
     while i < count {
-        cells[i] = numbers[i];
+        cells[i] = numbers[i] - 1;
         i += 1;
     }
 }

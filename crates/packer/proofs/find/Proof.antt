@@ -1,118 +1,101 @@
--- `packer::find` meets its contract: the walk goes along the chain of the glyph's spot, to a pattern like the glyph or to the chain's end.
+-- `packer::find` meets its contract: the first step of the walk, and then the further ones.
 -- Assumes nothing.
 use native.Mathlib.Omega.{arith}
-use Prim.Native.Nat.{_+_, _-_, _<_}
+use Prim.Native.Nat.{ℕ, _+_, _-_, _<_, _≤_}
 use mathlib.Core.Path.{_≡_, sym, _∙_}
 use mathlib.Core.Bool.{true, false}
-use mir.Syntax.{w8}
+use mir.Syntax.{w8, w16}
 use borrow.Table.Referent.{fInt}
 use borrow.Rule.Slice.Know.{Fit}
-use Rattle.packer.proofs.Chains.{Walk}
-use Rattle.packer.proofs.Finding.{met-start, met-below, met-first, met-found, met-less, met-on, met-end}
+use Rattle.packer.proofs.Chains.{walk-found, walk-on, walk-end}
 use Rattle.packer.proofs.find.Statement.{statement}
 use Rattle.packer.proofs.find.Tie as tie
 
-abbrev Inv-loop : tie.InvT-loop
-Inv-loop glyphs firsts nexts head used g next₀ next = Walk glyphs g used next
-
-abbrev μ-loop : tie.MeasureT-loop
-μ-loop glyphs firsts nexts head used g next₀ next = next
-
-loop-holds : tie.Need-loop-holds Inv-loop μ-loop
-loop-holds c =
-    let s : tie.Start Inv-loop μ-loop = search in
+returns : tie.Need-returns
+returns c =
+    let s : tie.Start = search in
     let a = s .args in
-    met-start (a .glyphs .now) (a .g) (a .used) _ (a .firsts .now) (a .nexts .now) (s .pre)
+    λ used w. walk-end (a .glyphs .now) (a .firsts .now) (a .nexts .now) (a .at) used (a .head) (omega arith) w
 
-sub-cell : tie.Need-sub-cell Inv-loop μ-loop
+sub-cell : tie.Need-sub-cell
 sub-cell c = omega arith
 
-shared-slice-read-first : tie.Need-shared-slice-read-first Inv-loop μ-loop
+mul-first : tie.Need-mul-first
+mul-first c = omega arith
+
+shared-slice-read-first : tie.Need-shared-slice-read-first
 shared-slice-read-first c =
-    let s : tie.Start Inv-loop μ-loop = search in
+    let s : tie.Start = search in
     let a = s .args in
-    let turn = (let h : tie.At-loop Inv-loop μ-loop = search in h .loop) in
-    omega (arith, met-below (a .glyphs .now) (a .g) (a .used) _ (a .firsts .now) (a .nexts .now) (s .pre) (turn .next) (turn .inv))
+    omega (arith, s .pre .low, s .pre .roomy)
 
-cast-first : tie.Need-cast-first Inv-loop μ-loop
+cast-first : tie.Need-cast-first
 cast-first c =
-    let s : tie.Start Inv-loop μ-loop = search in
+    let s : tie.Start = search in
     let a = s .args in
-    let turn = (let h : tie.At-loop Inv-loop μ-loop = search in h .loop) in
-    let fits : Fit (fInt w8) 0 (a .firsts .now) = search in
-    omega (arith, fits (turn .next - 1))
+    let fits : Fit (fInt w16) 0 (a .firsts .now) = search in
+    omega (arith, fits (a .head - 1))
 
-same-requires : tie.Need-same-requires Inv-loop μ-loop
+same-requires : tie.Need-same-requires
 same-requires c κs =
-    let s : tie.Start Inv-loop μ-loop = search in
+    let s : tie.Start = search in
     let a = s .args in
-    let turn = (let h : tie.At-loop Inv-loop μ-loop = search in h .loop) in
-    let below : turn .next - 1 < a .used = omega (arith, met-below (a .glyphs .now) (a .g) (a .used) _ (a .firsts .now) (a .nexts .now) (s .pre) (turn .next) (turn .inv)) in
-    (met-first (a .glyphs .now) (a .g) (a .used) _ (a .firsts .now) (a .nexts .now) (s .pre) (turn .next - 1) below, s .pre .one)
+    (s .pre .starts (a .head - 1) (omega arith), s .pre .there)
 
-returns : tie.Need-returns Inv-loop μ-loop
-returns c =
-    let s : tie.Start Inv-loop μ-loop = search in
-    let a = s .args in
-    let turn = (let h : tie.At-loop Inv-loop μ-loop = search in h .loop) in
-    let below : turn .next - 1 < a .used = omega (arith, met-below (a .glyphs .now) (a .g) (a .used) _ (a .firsts .now) (a .nexts .now) (s .pre) (turn .next) (turn .inv)) in
-    let like = (let p : tie.After-same Inv-loop μ-loop = search in p .same .ensures) in
-    met-found (a .glyphs .now) (a .g) (a .used) _ (a .firsts .now) (a .nexts .now) (s .pre) (turn .next - 1) below (sym like ∙ search)
-
-shared-slice-read-next : tie.Need-shared-slice-read-next Inv-loop μ-loop
-shared-slice-read-next c =
-    let s : tie.Start Inv-loop μ-loop = search in
-    let a = s .args in
-    let turn = (let h : tie.At-loop Inv-loop μ-loop = search in h .loop) in
-    omega (arith, met-below (a .glyphs .now) (a .g) (a .used) _ (a .firsts .now) (a .nexts .now) (s .pre) (turn .next) (turn .inv))
-
-cast-next : tie.Need-cast-next Inv-loop μ-loop
-cast-next c =
-    let s : tie.Start Inv-loop μ-loop = search in
-    let a = s .args in
-    let turn = (let h : tie.At-loop Inv-loop μ-loop = search in h .loop) in
-    let fits : Fit (fInt w8) 0 (a .nexts .now) = search in
-    omega (arith, fits (turn .next - 1))
-
-loop-less : tie.Need-loop-less Inv-loop μ-loop
-loop-less c =
-    let s : tie.Start Inv-loop μ-loop = search in
-    let a = s .args in
-    let turn = (let h : tie.At-loop Inv-loop μ-loop = search in h .loop) in
-    let below : turn .next - 1 < a .used = omega (arith, met-below (a .glyphs .now) (a .g) (a .used) _ (a .firsts .now) (a .nexts .now) (s .pre) (turn .next) (turn .inv)) in
-    omega (arith, met-less (a .glyphs .now) (a .g) (a .used) _ (a .firsts .now) (a .nexts .now) (s .pre) (turn .next - 1) below)
-
-loop-again : tie.Need-loop-again Inv-loop μ-loop
-loop-again c =
-    let s : tie.Start Inv-loop μ-loop = search in
-    let a = s .args in
-    let turn = (let h : tie.At-loop Inv-loop μ-loop = search in h .loop) in
-    let below : turn .next - 1 < a .used = omega (arith, met-below (a .glyphs .now) (a .g) (a .used) _ (a .firsts .now) (a .nexts .now) (s .pre) (turn .next) (turn .inv)) in
-    let here : turn .next ≡ turn .next - 1 + 1 = omega arith in
-    let unlike = (let p : tie.After-same Inv-loop μ-loop = search in p .same .ensures) in
-    met-on (a .glyphs .now) (a .g) (a .used) _ (a .firsts .now) (a .nexts .now) (s .pre) (turn .next) (turn .next - 1) below here (sym unlike ∙ search) (turn .inv)
-
-returns-2 : tie.Need-returns-2 Inv-loop μ-loop
+returns-2 : tie.Need-returns-2
 returns-2 c =
-    let s : tie.Start Inv-loop μ-loop = search in
+    let s : tie.Start = search in
     let a = s .args in
-    let turn = (let h : tie.At-loop Inv-loop μ-loop = search in h .loop) in
-    met-end (a .glyphs .now) (a .g) (a .used) _ (a .firsts .now) (a .nexts .now) (s .pre) (turn .next) (omega arith) (turn .inv)
+    let same = (let p : tie.After-same = search in p .same .ensures) in
+    λ used w. walk-found (a .glyphs .now) (a .firsts .now) (a .nexts .now) (a .at) used (a .head) (a .head - 1) (omega arith) (sym same ∙ search) w
+
+shared-slice-read-next : tie.Need-shared-slice-read-next
+shared-slice-read-next c =
+    let s : tie.Start = search in
+    let a = s .args in
+    omega (arith, s .pre .low, s .pre .chained)
+
+cast-next : tie.Need-cast-next
+cast-next c =
+    let s : tie.Start = search in
+    let a = s .args in
+    let fits : Fit (fInt w8) 0 (a .nexts .now) = search in
+    omega (arith, fits (a .head - 1))
+
+further-requires : tie.Need-further-requires
+further-requires c κs =
+    let s : tie.Start = search in
+    let a = s .args in
+    let falls = s .pre .falls (a .head - 1) (omega arith) in
+    record {
+      there = s .pre .there;
+      low = omega (arith, s .pre .low);
+      roomy = s .pre .roomy;
+      chained = s .pre .chained;
+      starts = λ c l. s .pre .starts c (omega arith);
+      falls = λ c l. s .pre .falls c (omega arith);
+    }
+
+returns-3 : tie.Need-returns-3
+returns-3 c =
+    let s : tie.Start = search in
+    let a = s .args in
+    let same = (let p : tie.After-same = search in p .same .ensures) in
+    let further = (let p : tie.After-further = search in p .further .ensures) in
+    λ used w. further used (walk-on (a .glyphs .now) (a .firsts .now) (a .nexts .now) (a .at) used (a .head) (a .head - 1) (omega arith) (sym same ∙ search) w)
 
 pub find-spec : {M : Type 1} → statement M
 find-spec =
     tie.close
     (tie.spec
-    Inv-loop
-    μ-loop
-    loop-holds
+    returns
     sub-cell
+    mul-first
     shared-slice-read-first
     cast-first
     same-requires
-    returns
+    returns-2
     shared-slice-read-next
     cast-next
-    loop-less
-    loop-again
-    returns-2)
+    further-requires
+    returns-3)

@@ -1,44 +1,19 @@
--- `packer::four` meets its contract: the rows have 16 bits, so that nothing is carried over.
+-- `packer::four` meets its contract: two rows have 32 bits, so that nothing is carried over.
 -- Assumes nothing.
 use native.Mathlib.Omega.{arith}
 use borrow.Author.Needs.{needs}
-use mathlib.Core.Path.{_≡_}
 use Rattle.packer.specs.Steps.{fourAt}
 use Rattle.packer.proofs.four.Statement.{statement}
 use Rattle.packer.proofs.four.Tie as tie
 
-row-requires : tie.Need-row-requires
-row-requires c κs = search needs
+two-requires : tie.Need-two-requires
+two-requires c κs = search needs
 
-add-row : tie.Need-add-row
-add-row c = omega arith
+add-two : tie.Need-add-two
+add-two c = omega arith
 
-row-requires-2 : tie.Need-row-requires-2
-row-requires-2 c κs = search needs
-
-mul-low : tie.Need-mul-low
-mul-low c = omega arith
-
-add-low : tie.Need-add-low
-add-low c = omega arith
-
-add-row-2 : tie.Need-add-row-2
-add-row-2 c = omega arith
-
-row-requires-3 : tie.Need-row-requires-3
-row-requires-3 c κs = search needs
-
-add-row-3 : tie.Need-add-row-3
-add-row-3 c = omega arith
-
-row-requires-4 : tie.Need-row-requires-4
-row-requires-4 c κs = search needs
-
-mul-high : tie.Need-mul-high
-mul-high c = omega arith
-
-add-high : tie.Need-add-high
-add-high c = omega arith
+two-requires-2 : tie.Need-two-requires-2
+two-requires-2 c κs = search needs
 
 mul-result : tie.Need-mul-result
 mul-result c = omega arith
@@ -48,23 +23,7 @@ add-result c = omega arith
 
 returns : tie.Need-returns
 unfolding fourAt
-returns c = omega arith
+returns c = (omega arith, omega arith)
 
 pub four-spec : {M : Type 1} → statement M
-four-spec =
-    tie.close
-    (tie.spec
-    row-requires
-    add-row
-    row-requires-2
-    mul-low
-    add-low
-    add-row-2
-    row-requires-3
-    add-row-3
-    row-requires-4
-    mul-high
-    add-high
-    mul-result
-    add-result
-    returns)
+four-spec = tie.close (tie.spec two-requires add-two two-requires-2 mul-result add-result returns)

@@ -2,60 +2,44 @@
 -- Assumes nothing.
 use native.Mathlib.Omega.{arith}
 use Prim.Native.Nat.{_-_, _%_, _≤_}
-use mathlib.Core.Path.{_≡_, sym, _∙_, ap}
-use Rattle.packer.proofs.Words.{Rows, rows-none, rows-more, four-differ, last-decide}
-use Rattle.packer.proofs.Asked.{one-within, one-there}
+use mathlib.Core.Path.{_≡_, sym, _∙_}
+use mir.Syntax.{w16}
+use borrow.Table.Referent.{fInt}
+use borrow.Rule.Slice.Know.{Fit}
+use Rattle.packer.proofs.Words.{Rows, rows-none, more-four, four-differ, last-decide}
 use Rattle.packer.proofs.same.Statement.{statement}
 use Rattle.packer.proofs.same.Tie as tie
 
 abbrev Inv-loop : tie.InvT-loop
-Inv-loop glyphs a b x y l₀ l = (l ≤ 16) × ((l % 4 ≡ 0) × Rows glyphs a b l)
+Inv-loop glyphs x y l₀ l = (l ≤ 16) × ((l % 4 ≡ 0) × Rows glyphs x y l)
 
 abbrev μ-loop : tie.MeasureT-loop
-μ-loop glyphs a b x y l₀ l = 16 - l
-
-mul-x : tie.Need-mul-x Inv-loop μ-loop
-mul-x c =
-    let p = (let s : tie.Start Inv-loop μ-loop = search in s .pre) in
-    omega (arith, one-there _ _ (p .0), one-there _ _ (p .1))
-
-mul-y : tie.Need-mul-y Inv-loop μ-loop
-mul-y c =
-    let p = (let s : tie.Start Inv-loop μ-loop = search in s .pre) in
-    omega (arith, one-there _ _ (p .0), one-there _ _ (p .1))
+μ-loop glyphs x y l₀ l = 16 - l
 
 loop-holds : tie.Need-loop-holds Inv-loop μ-loop
 loop-holds c =
     let a = (let s : tie.Start Inv-loop μ-loop = search in s .args) in
-    (omega arith, (omega arith, rows-none (a .glyphs .now) (a .a) (a .b)))
+    (omega arith, (omega arith, rows-none (a .glyphs .now) (a .x) (a .y)))
 
 add-four : tie.Need-add-four Inv-loop μ-loop
-add-four c =
-    let p = (let s : tie.Start Inv-loop μ-loop = search in s .pre) in
-    omega (arith, one-there _ _ (p .0), one-there _ _ (p .1))
+add-four c = omega arith
 
 four-requires : tie.Need-four-requires Inv-loop μ-loop
-four-requires c κs =
-    let p = (let s : tie.Start Inv-loop μ-loop = search in s .pre) in
-    omega (arith, one-there _ _ (p .0), one-there _ _ (p .1))
+four-requires c κs = omega arith
 
 add-four-2 : tie.Need-add-four-2 Inv-loop μ-loop
-add-four-2 c =
-    let p = (let s : tie.Start Inv-loop μ-loop = search in s .pre) in
-    omega (arith, one-there _ _ (p .0), one-there _ _ (p .1))
+add-four-2 c = omega arith
 
 four-requires-2 : tie.Need-four-requires-2 Inv-loop μ-loop
-four-requires-2 c κs =
-    let p = (let s : tie.Start Inv-loop μ-loop = search in s .pre) in
-    omega (arith, one-there _ _ (p .0), one-there _ _ (p .1))
+four-requires-2 c κs = omega arith
 
 returns : tie.Need-returns Inv-loop μ-loop
 returns c =
-    let s : tie.Start Inv-loop μ-loop = search in
+    let a = (let s : tie.Start Inv-loop μ-loop = search in s .args) in
     let l = (let h : tie.At-loop Inv-loop μ-loop = search in h .loop .l) in
-    let a = (let p : tie.After-four Inv-loop μ-loop = search in p .four .ensures) in
-    let b = (let p : tie.After-four2 Inv-loop μ-loop = search in p .four2 .ensures) in
-    sym (four-differ (s .args .glyphs .now) (one-within _ _ (s .pre .0)) (s .args .a) (s .args .b) l (omega arith) (λ e. absurd (omega (arith, a, b, e))))
+    let one = (let p : tie.After-four Inv-loop μ-loop = search in p .four .ensures .0) in
+    let other = (let p : tie.After-four2 Inv-loop μ-loop = search in p .four2 .ensures .0) in
+    sym (four-differ (a .glyphs .now) (a .x) (a .y) l (omega arith) (λ e. absurd (omega (arith, one, other, e))))
 
 add-l : tie.Need-add-l Inv-loop μ-loop
 add-l c = omega arith
@@ -65,39 +49,33 @@ loop-less c = omega arith
 
 loop-again : tie.Need-loop-again Inv-loop μ-loop
 loop-again c =
-    let s : tie.Start Inv-loop μ-loop = search in
+    let a = (let s : tie.Start Inv-loop μ-loop = search in s .args) in
+    let fits : Fit (fInt w16) 0 (a .glyphs .now) = search in
     let turn = (let h : tie.At-loop Inv-loop μ-loop = search in h .loop) in
-    let a = (let p : tie.After-four Inv-loop μ-loop = search in p .four .ensures) in
-    let b = (let p : tie.After-four2 Inv-loop μ-loop = search in p .four2 .ensures) in
-    (omega arith, (omega arith, rows-more (s .args .glyphs .now) (one-within _ _ (s .pre .0)) (s .args .a) (s .args .b) (turn .l) (turn .l) (omega arith) (omega (arith, a, b)) (turn .inv .1 .1)))
+    let one = (let p : tie.After-four Inv-loop μ-loop = search in p .four .ensures .0) in
+    let other = (let p : tie.After-four2 Inv-loop μ-loop = search in p .four2 .ensures .0) in
+    (omega arith, (omega arith, more-four (a .glyphs .now) (λ k. omega (arith, fits k)) (a .x) (a .y) (turn .l) (turn .l) (omega arith) (omega (arith, one, other)) (turn .inv .1 .1)))
 
-add-four-3 : tie.Need-add-four-3 Inv-loop μ-loop
-add-four-3 c =
-    let p = (let s : tie.Start Inv-loop μ-loop = search in s .pre) in
-    omega (arith, one-there _ _ (p .0), one-there _ _ (p .1))
+add-two : tie.Need-add-two Inv-loop μ-loop
+add-two c = omega arith
 
-four-requires-3 : tie.Need-four-requires-3 Inv-loop μ-loop
-four-requires-3 c κs =
-    let p = (let s : tie.Start Inv-loop μ-loop = search in s .pre) in
-    omega (arith, one-there _ _ (p .0), one-there _ _ (p .1))
+two-requires : tie.Need-two-requires Inv-loop μ-loop
+two-requires c κs = omega arith
 
-add-four-4 : tie.Need-add-four-4 Inv-loop μ-loop
-add-four-4 c =
-    let p = (let s : tie.Start Inv-loop μ-loop = search in s .pre) in
-    omega (arith, one-there _ _ (p .0), one-there _ _ (p .1))
+add-two-2 : tie.Need-add-two-2 Inv-loop μ-loop
+add-two-2 c = omega arith
 
-four-requires-4 : tie.Need-four-requires-4 Inv-loop μ-loop
-four-requires-4 c κs =
-    let p = (let s : tie.Start Inv-loop μ-loop = search in s .pre) in
-    omega (arith, one-there _ _ (p .0), one-there _ _ (p .1))
+two-requires-2 : tie.Need-two-requires-2 Inv-loop μ-loop
+two-requires-2 c κs = omega arith
 
 returns-2 : tie.Need-returns-2 Inv-loop μ-loop
 returns-2 c =
-    let s : tie.Start Inv-loop μ-loop = search in
+    let a = (let s : tie.Start Inv-loop μ-loop = search in s .args) in
+    let fits : Fit (fInt w16) 0 (a .glyphs .now) = search in
     let turn = (let h : tie.At-loop Inv-loop μ-loop = search in h .loop) in
-    let a = (let p : tie.After-four3 Inv-loop μ-loop = search in p .four3 .ensures) in
-    let b = (let p : tie.After-four4 Inv-loop μ-loop = search in p .four4 .ensures) in
-    rw (a, b) (last-decide (s .args .glyphs .now) (one-within _ _ (s .pre .0)) (s .args .a) (s .args .b) (turn .l) (omega arith) (turn .inv .1 .1))
+    let one = (let p : tie.After-two Inv-loop μ-loop = search in p .two .ensures .0) in
+    let other = (let p : tie.After-two2 Inv-loop μ-loop = search in p .two2 .ensures .0) in
+    rw (one, other) (last-decide (a .glyphs .now) (λ k. omega (arith, fits k)) (a .x) (a .y) (turn .l) (omega arith) (turn .inv .1 .1))
 
 pub same-spec : {M : Type 1} → statement M
 same-spec =
@@ -105,8 +83,6 @@ same-spec =
     (tie.spec
     Inv-loop
     μ-loop
-    mul-x
-    mul-y
     loop-holds
     add-four
     four-requires
@@ -116,8 +92,8 @@ same-spec =
     add-l
     loop-less
     loop-again
-    add-four-3
-    four-requires-3
-    add-four-4
-    four-requires-4
+    add-two
+    two-requires
+    add-two-2
+    two-requires-2
     returns-2)

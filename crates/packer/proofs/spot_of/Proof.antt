@@ -1,137 +1,90 @@
--- `packer::spot_of` meets its contract: each number of four rows is small enough for the sum.
+-- `packer::spot_of` meets its contract: the sum of the rows' numbers, mixed.
 -- Assumes nothing.
 use native.Mathlib.Omega.{arith}
-use mathlib.Core.Path.{_≡_}
-use Rattle.packer.specs.Steps.{spotOf}
-use Rattle.packer.proofs.Words.{fours-most}
-use Rattle.packer.proofs.Asked.{one-within, one-there}
+use borrow.Author.Needs.{needs}
+use mathlib.Core.Path.{_∙_}
+use Rattle.packer.specs.Steps.{sumAt, mixedSpot}
 use Rattle.packer.proofs.spot_of.Statement.{statement}
 use Rattle.packer.proofs.spot_of.Tie as tie
 
-mul-at : tie.Need-mul-at
-mul-at c =
-    let s = (let s : tie.Start = search in s) in
-    omega (arith, one-there _ _ (s .pre))
-
 four-requires : tie.Need-four-requires
-four-requires c κs =
-    let s = (let s : tie.Start = search in s) in
-    omega (arith, one-there _ _ (s .pre))
+four-requires c κs = omega arith
 
 add-four : tie.Need-add-four
-add-four c =
-    let s = (let s : tie.Start = search in s) in
-    omega (arith, one-there _ _ (s .pre))
+add-four c = omega arith
 
 four-requires-2 : tie.Need-four-requires-2
-four-requires-2 c κs =
-    let s = (let s : tie.Start = search in s) in
-    omega (arith, one-there _ _ (s .pre))
+four-requires-2 c κs = omega arith
 
-mul-upper : tie.Need-mul-upper
-mul-upper c =
-    let s = (let s : tie.Start = search in s) in
-    omega (arith, fours-most (s .args .glyphs .now) (one-within _ _ (s .pre)) (s .args .g))
-
-add-upper : tie.Need-add-upper
-add-upper c =
-    let s = (let s : tie.Start = search in s) in
-    omega (arith, fours-most (s .args .glyphs .now) (one-within _ _ (s .pre)) (s .args .g))
+with-twice-requires : tie.Need-with-twice-requires
+with-twice-requires c κs = search needs
 
 add-four-2 : tie.Need-add-four-2
-add-four-2 c =
-    let s = (let s : tie.Start = search in s) in
-    omega (arith, one-there _ _ (s .pre))
+add-four-2 c = omega arith
 
 four-requires-3 : tie.Need-four-requires-3
-four-requires-3 c κs =
-    let s = (let s : tie.Start = search in s) in
-    omega (arith, one-there _ _ (s .pre))
-
-mul-middle : tie.Need-mul-middle
-mul-middle c =
-    let s = (let s : tie.Start = search in s) in
-    omega (arith, fours-most (s .args .glyphs .now) (one-within _ _ (s .pre)) (s .args .g))
+four-requires-3 c κs = omega arith
 
 add-four-3 : tie.Need-add-four-3
-add-four-3 c =
-    let s = (let s : tie.Start = search in s) in
-    omega (arith, one-there _ _ (s .pre))
+add-four-3 c = omega arith
 
 four-requires-4 : tie.Need-four-requires-4
-four-requires-4 c κs =
-    let s = (let s : tie.Start = search in s) in
-    omega (arith, one-there _ _ (s .pre))
+four-requires-4 c κs = omega arith
 
-mul-lower : tie.Need-mul-lower
-mul-lower c =
-    let s = (let s : tie.Start = search in s) in
-    omega (arith, fours-most (s .args .glyphs .now) (one-within _ _ (s .pre)) (s .args .g))
+with-twice-requires-2 : tie.Need-with-twice-requires-2
+with-twice-requires-2 c κs = search needs
 
-add-four-4 : tie.Need-add-four-4
-add-four-4 c =
-    let s = (let s : tie.Start = search in s) in
-    omega (arith, one-there _ _ (s .pre))
+with-twice-requires-3 : tie.Need-with-twice-requires-3
+with-twice-requires-3 c κs = search needs
 
-four-requires-5 : tie.Need-four-requires-5
-four-requires-5 c κs =
-    let s = (let s : tie.Start = search in s) in
-    omega (arith, one-there _ _ (s .pre))
+with-twice-requires-4 : tie.Need-with-twice-requires-4
+with-twice-requires-4 c κs = search needs
 
-mul-lower-2 : tie.Need-mul-lower-2
-mul-lower-2 c =
-    let s = (let s : tie.Start = search in s) in
-    omega (arith, fours-most (s .args .glyphs .now) (one-within _ _ (s .pre)) (s .args .g))
+add-two : tie.Need-add-two
+add-two c = omega arith
 
-add-lower : tie.Need-add-lower
-add-lower c =
-    let s = (let s : tie.Start = search in s) in
-    omega (arith, fours-most (s .args .glyphs .now) (one-within _ _ (s .pre)) (s .args .g))
+two-requires : tie.Need-two-requires
+two-requires c κs = omega arith
 
-add-result : tie.Need-add-result
-add-result c =
-    let s = (let s : tie.Start = search in s) in
-    omega (arith, fours-most (s .args .glyphs .now) (one-within _ _ (s .pre)) (s .args .g))
+wrapping-add-u64-requires : tie.Need-wrapping-add-u64-requires
+wrapping-add-u64-requires c κs = search needs
 
-add-result-2 : tie.Need-add-result-2
-add-result-2 c =
-    let s = (let s : tie.Start = search in s) in
-    omega (arith, fours-most (s .args .glyphs .now) (one-within _ _ (s .pre)) (s .args .g))
-
-rem-result : tie.Need-rem-result
-rem-result c = omega arith
+mixed-requires : tie.Need-mixed-requires
+mixed-requires c κs = search needs
 
 returns : tie.Need-returns
-unfolding spotOf
+unfolding sumAt
 returns c =
-    let first = (let p : tie.After-four = search in p .four .ensures) in
-    let second = (let p : tie.After-four2 = search in p .four2 .ensures) in
-    let third = (let p : tie.After-four3 = search in p .four3 .ensures) in
-    let fourth = (let p : tie.After-four4 = search in p .four4 .ensures) in
-    let last = (let p : tie.After-four5 = search in p .four5 .ensures) in
-    rw (first, second, third, fourth, last)
+    let first = (let p : tie.After-four = search in p .four .ensures .0) in
+    let second = (let p : tie.After-four2 = search in p .four2 .ensures .0) in
+    let third = (let p : tie.After-four3 = search in p .four3 .ensures .0) in
+    let fourth = (let p : tie.After-four4 = search in p .four4 .ensures .0) in
+    let upper = (let p : tie.After-with-twice = search in p .with-twice .ensures) in
+    let lower = (let p : tie.After-with-twice2 = search in p .with-twice2 .ensures) in
+    let once = (let p : tie.After-with-twice3 = search in p .with-twice3 .ensures) in
+    let twice = (let p : tie.After-with-twice4 = search in p .with-twice4 .ensures) in
+    let last = (let p : tie.After-two = search in p .two .ensures .0) in
+    let sum = (let p : tie.After-wrapping-add-u64 = search in p .wrapping-add-u64 .ensures) in
+    let spot = (let p : tie.After-mixed = search in p .mixed .ensures) in
+    spot ∙ rw (sum, twice, once, lower, upper, first, second, third, fourth, last)
 
 pub spot-of-spec : {M : Type 1} → statement M
 spot-of-spec =
     tie.close
     (tie.spec
-    mul-at
     four-requires
     add-four
     four-requires-2
-    mul-upper
-    add-upper
+    with-twice-requires
     add-four-2
     four-requires-3
-    mul-middle
     add-four-3
     four-requires-4
-    mul-lower
-    add-four-4
-    four-requires-5
-    mul-lower-2
-    add-lower
-    add-result
-    add-result-2
-    rem-result
+    with-twice-requires-2
+    with-twice-requires-3
+    with-twice-requires-4
+    add-two
+    two-requires
+    wrapping-add-u64-requires
+    mixed-requires
     returns)
