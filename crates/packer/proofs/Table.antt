@@ -88,6 +88,9 @@ module _ (glyphs : List ℕ) (g used : ℕ) (firsts₀ firsts numbers₀ numbers
     head-last : head ≡ lastAt glyphs used (spotAt glyphs (18 * g))
     head-last = is-head ∙ t .last .last spot spot-in ∙ ap (lastAt glyphs used) is-spot
 
+    pub table-head : head ≤ fontCells
+    table-head = omega (arith, head-last, last-most (λ c. eqb (spotAt glyphs (firstRow glyphs c)) (spotAt glyphs (18 * g))) used, t .few)
+
     pub table-chained : Chained glyphs firsts nexts head (18 * g)
     table-chained =
         let low = last-most (λ c. eqb (spotAt glyphs (firstRow glyphs c)) (spotAt glyphs (18 * g))) used in
