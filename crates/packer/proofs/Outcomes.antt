@@ -1,7 +1,7 @@
 -- What a call answers and leaves, by the tests that decide it.
 -- Assumes nothing.
 use Prim.Native.Nat.{ℕ, _-_, _<_, _≤_}
-use mathlib.Core.Path.{_≡_, sym, _∙_, ap}
+use mathlib.Core.Path.{_≡_, sym, _∙_, ap, subst}
 use mathlib.Core.Bool.{true, false}
 use mathlib.Core.List.{List, _++_}
 use native.Mathlib.Omega.{arith}
@@ -10,12 +10,29 @@ use lib.Dec.{eqb, leb, ltb}
 use lib.ListN.{length, getD, drop}
 use Rattle.laws.specs.Said.{Said, accepted, refused}
 use Rattle.laws.specs.Lists.{tabulate}
+use Rattle.laws.specs.Within.{within}
 use Rattle.laws.proofs.Both.{none-left, none-right}
 use Rattle.laws.proofs.Lists.{tabulate-same}
-use Rattle.font.specs.Font.{fontCells, fontRows}
+use Rattle.font.specs.Font.{fontCells, fontRows, mostRow}
+use Rattle.packer.specs.declared.Numbering.{Numbering}
+use Rattle.packer.specs.declared.Numbering.the-variants.{All, TooMany, TooWide}
 use Rattle.packer.specs.Glyphs.{glyphsIn, patternsIn, cellFor, packedFont}
-use Rattle.packer.specs.Packing.{areGlyphs, roomFor, answerOf, packs, fontLeft, cellsLeft}
-use Rattle.packer.specs.Steps.{AllNumbered}
+use Rattle.packer.specs.Packing.{areWhole, areGlyphs, roomFor, answerOf, packs, fontLeft, cellsLeft}
+use Rattle.packer.specs.Steps.{AllNumbered, Numbered}
+
+pub not-whole : (glyphs : List ℕ) → areWhole glyphs ≡ false → areGlyphs glyphs ≡ false
+unfolding areGlyphs
+not-whole glyphs none = none-left (areWhole glyphs) (within mostRow glyphs) none
+
+-- what came of numbering, by its case
+pub numbered-all : (glyphs firsts numbers : List ℕ) (used : ℕ) (r : Numbering) → r ≡ All used → Numbered glyphs firsts numbers r → AllNumbered glyphs firsts numbers used
+numbered-all glyphs firsts numbers used r e n = subst (Numbered glyphs firsts numbers) e n
+
+pub numbered-many : (glyphs firsts numbers : List ℕ) (r : Numbering) → r ≡ TooMany → Numbered glyphs firsts numbers r → (areGlyphs glyphs ≡ true) × (fontCells < patternsIn glyphs)
+numbered-many glyphs firsts numbers r e n = subst (Numbered glyphs firsts numbers) e n
+
+pub numbered-wide : (glyphs firsts numbers : List ℕ) (r : Numbering) → r ≡ TooWide → Numbered glyphs firsts numbers r → areGlyphs glyphs ≡ false
+numbered-wide glyphs firsts numbers r e n = subst (Numbered glyphs firsts numbers) e n
 
 module _ (glyphs font cells : List ℕ) where
   -- the numbers

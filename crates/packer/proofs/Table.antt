@@ -66,7 +66,6 @@ table-none glyphs firsts numbers =
 
 module _ (glyphs : List ℕ) (g used : ℕ) (firsts₀ firsts numbers₀ numbers nexts₀ nexts heads : List ℕ)
     (pre : ToNumber glyphs firsts₀ numbers₀) (t : Table glyphs g used firsts₀ firsts numbers₀ numbers nexts₀ nexts heads) (l : g < glyphsIn glyphs) where
-
   shape : (length glyphs ≡ cellRows * glyphsIn glyphs) × (glyphsIn glyphs ≤ mostGlyphs)
   shape = whole-parts glyphs (pre .whole)
 

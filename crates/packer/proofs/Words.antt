@@ -58,7 +58,7 @@ module _ (glyphs : List ℕ) where
   four-same x y k le e =
       let low = two-same x y k (omega arith) e in
       let high : twoAt glyphs (x + k + 2) ≡ twoAt glyphs (y + k + 2) =
-              ap (twoAt glyphs) (assoc x k) ∙ two-same x y (k + 2) (omega arith) e ∙ sym (ap (twoAt glyphs) (assoc y k)) in
+      ap (twoAt glyphs) (assoc x k) ∙ two-same x y (k + 2) (omega arith) e ∙ sym (ap (twoAt glyphs) (assoc y k)) in
       rw (low, high)
     where
       assoc : (x k : ℕ) → x + k + 2 ≡ x + (k + 2)

@@ -84,9 +84,10 @@ loop-again c =
     let s : tie.Start Inv-loop μ-loop = search in
     let a = s .args in
     let turn = (let h : tie.At-loop Inv-loop μ-loop = search in h .loop) in
-    let same = (let p : tie.After-same Inv-loop μ-loop = search in p .same .ensures) in
-    (omega (arith, s .pre .falls (turn .next - 1) (omega arith)),
-    λ used w. walk-on (a .glyphs .now) (a .firsts .now) (a .nexts .now) (a .at) used (turn .next) (turn .next - 1) (omega arith) (sym same ∙ search) (turn .inv .1 used w))
+    let same = (let p : tie.After-same Inv-loop μ-loop = search in p .same .ensures) in (
+      omega (arith, s .pre .falls (turn .next - 1) (omega arith)),
+      λ used w. walk-on (a .glyphs .now) (a .firsts .now) (a .nexts .now) (a .at) used (turn .next) (turn .next - 1) (omega arith) (sym same ∙ search) (turn .inv .1 used w),
+    )
 
 returns-2 : tie.Need-returns-2 Inv-loop μ-loop
 returns-2 c =
