@@ -24,17 +24,15 @@ loop-holds c = table-none _ _ _
 
 mul-at : tie.Need-mul-at Inv-loop μ-loop
 mul-at c =
-    let s : tie.Start Inv-loop μ-loop = search in
-    let a = s .args in
-    let turn = (let h : tie.At-loop Inv-loop μ-loop = search in h .loop) in
-    omega (arith, table-small (a .glyphs .now) (turn .g) (turn .used) _ (turn .firsts) _ (turn .numbers) _ (turn .nexts) (turn .heads) (s .pre) (turn .inv) (omega arith))
+    let small = (let s : tie.Start Inv-loop μ-loop = search in let a = s .args in let turn = (let h : tie.At-loop Inv-loop μ-loop = search in h .loop) in
+    table-small (a .glyphs .now) (turn .g) (turn .used) _ (turn .firsts) _ (turn .numbers) _ (turn .nexts) (turn .heads) (s .pre) (turn .inv) (omega arith)) in
+    omega (arith, small)
 
 spot-of-requires : tie.Need-spot-of-requires Inv-loop μ-loop
 spot-of-requires c κs =
-    let s : tie.Start Inv-loop μ-loop = search in
-    let a = s .args in
-    let turn = (let h : tie.At-loop Inv-loop μ-loop = search in h .loop) in
-    omega (arith, table-small (a .glyphs .now) (turn .g) (turn .used) _ (turn .firsts) _ (turn .numbers) _ (turn .nexts) (turn .heads) (s .pre) (turn .inv) (omega arith))
+    let small = (let s : tie.Start Inv-loop μ-loop = search in let a = s .args in let turn = (let h : tie.At-loop Inv-loop μ-loop = search in h .loop) in
+    table-small (a .glyphs .now) (turn .g) (turn .used) _ (turn .firsts) _ (turn .numbers) _ (turn .nexts) (turn .heads) (s .pre) (turn .inv) (omega arith)) in
+    omega (arith, small)
 
 array-read-head : tie.Need-array-read-head Inv-loop μ-loop
 array-read-head c =
@@ -65,24 +63,21 @@ find-requires c κs =
 
 narrow-requires : tie.Need-narrow-requires Inv-loop μ-loop
 narrow-requires c κs =
-    let s : tie.Start Inv-loop μ-loop = search in
-    let a = s .args in
-    let turn = (let h : tie.At-loop Inv-loop μ-loop = search in h .loop) in
-    omega (arith, table-small (a .glyphs .now) (turn .g) (turn .used) _ (turn .firsts) _ (turn .numbers) _ (turn .nexts) (turn .heads) (s .pre) (turn .inv) (omega arith))
+    let small = (let s : tie.Start Inv-loop μ-loop = search in let a = s .args in let turn = (let h : tie.At-loop Inv-loop μ-loop = search in h .loop) in
+    table-small (a .glyphs .now) (turn .g) (turn .used) _ (turn .firsts) _ (turn .numbers) _ (turn .nexts) (turn .heads) (s .pre) (turn .inv) (omega arith)) in
+    omega (arith, small)
 
 same-length : tie.Need-same-length Inv-loop μ-loop
 same-length c =
-    let s : tie.Start Inv-loop μ-loop = search in
-    let a = s .args in
-    let turn = (let h : tie.At-loop Inv-loop μ-loop = search in h .loop) in
-    omega (arith, table-small (a .glyphs .now) (turn .g) (turn .used) _ (turn .firsts) _ (turn .numbers) _ (turn .nexts) (turn .heads) (s .pre) (turn .inv) (omega arith))
+    let small = (let s : tie.Start Inv-loop μ-loop = search in let a = s .args in let turn = (let h : tie.At-loop Inv-loop μ-loop = search in h .loop) in
+    table-small (a .glyphs .now) (turn .g) (turn .used) _ (turn .firsts) _ (turn .numbers) _ (turn .nexts) (turn .heads) (s .pre) (turn .inv) (omega arith)) in
+    omega (arith, small)
 
 same-length-2 : tie.Need-same-length-2 Inv-loop μ-loop
 same-length-2 c =
-    let s : tie.Start Inv-loop μ-loop = search in
-    let a = s .args in
-    let turn = (let h : tie.At-loop Inv-loop μ-loop = search in h .loop) in
-    omega (arith, table-small (a .glyphs .now) (turn .g) (turn .used) _ (turn .firsts) _ (turn .numbers) _ (turn .nexts) (turn .heads) (s .pre) (turn .inv) (omega arith))
+    let small = (let s : tie.Start Inv-loop μ-loop = search in let a = s .args in let turn = (let h : tie.At-loop Inv-loop μ-loop = search in h .loop) in
+    table-small (a .glyphs .now) (turn .g) (turn .used) _ (turn .firsts) _ (turn .numbers) _ (turn .nexts) (turn .heads) (s .pre) (turn .inv) (omega arith)) in
+    omega (arith, small)
 
 returns : tie.Need-returns Inv-loop μ-loop
 returns c =
@@ -98,17 +93,15 @@ too-many-requires c κs = search needs
 
 same-length-3 : tie.Need-same-length-3 Inv-loop μ-loop
 same-length-3 c =
-    let s : tie.Start Inv-loop μ-loop = search in
-    let a = s .args in
-    let turn = (let h : tie.At-loop Inv-loop μ-loop = search in h .loop) in
-    omega (arith, table-small (a .glyphs .now) (turn .g) (turn .used) _ (turn .firsts) _ (turn .numbers) _ (turn .nexts) (turn .heads) (s .pre) (turn .inv) (omega arith))
+    let small = (let s : tie.Start Inv-loop μ-loop = search in let a = s .args in let turn = (let h : tie.At-loop Inv-loop μ-loop = search in h .loop) in
+    table-small (a .glyphs .now) (turn .g) (turn .used) _ (turn .firsts) _ (turn .numbers) _ (turn .nexts) (turn .heads) (s .pre) (turn .inv) (omega arith)) in
+    omega (arith, small)
 
 same-length-4 : tie.Need-same-length-4 Inv-loop μ-loop
 same-length-4 c =
-    let s : tie.Start Inv-loop μ-loop = search in
-    let a = s .args in
-    let turn = (let h : tie.At-loop Inv-loop μ-loop = search in h .loop) in
-    omega (arith, table-small (a .glyphs .now) (turn .g) (turn .used) _ (turn .firsts) _ (turn .numbers) _ (turn .nexts) (turn .heads) (s .pre) (turn .inv) (omega arith))
+    let small = (let s : tie.Start Inv-loop μ-loop = search in let a = s .args in let turn = (let h : tie.At-loop Inv-loop μ-loop = search in h .loop) in
+    table-small (a .glyphs .now) (turn .g) (turn .used) _ (turn .firsts) _ (turn .numbers) _ (turn .nexts) (turn .heads) (s .pre) (turn .inv) (omega arith)) in
+    omega (arith, small)
 
 returns-2 : tie.Need-returns-2 Inv-loop μ-loop
 returns-2 c =
@@ -125,20 +118,18 @@ returns-2 c =
 
 cast-firsts : tie.Need-cast-firsts Inv-loop μ-loop
 cast-firsts c =
-    let s : tie.Start Inv-loop μ-loop = search in
-    let a = s .args in
-    let turn = (let h : tie.At-loop Inv-loop μ-loop = search in h .loop) in
-    omega (arith, table-small (a .glyphs .now) (turn .g) (turn .used) _ (turn .firsts) _ (turn .numbers) _ (turn .nexts) (turn .heads) (s .pre) (turn .inv) (omega arith))
+    let small = (let s : tie.Start Inv-loop μ-loop = search in let a = s .args in let turn = (let h : tie.At-loop Inv-loop μ-loop = search in h .loop) in
+    table-small (a .glyphs .now) (turn .g) (turn .used) _ (turn .firsts) _ (turn .numbers) _ (turn .nexts) (turn .heads) (s .pre) (turn .inv) (omega arith)) in
+    omega (arith, small)
 
 mul-firsts : tie.Need-mul-firsts Inv-loop μ-loop
 mul-firsts c = omega arith
 
 slice-write-firsts : tie.Need-slice-write-firsts Inv-loop μ-loop
 slice-write-firsts c =
-    let s : tie.Start Inv-loop μ-loop = search in
-    let a = s .args in
-    let turn = (let h : tie.At-loop Inv-loop μ-loop = search in h .loop) in
-    omega (arith, table-small (a .glyphs .now) (turn .g) (turn .used) _ (turn .firsts) _ (turn .numbers) _ (turn .nexts) (turn .heads) (s .pre) (turn .inv) (omega arith))
+    let small = (let s : tie.Start Inv-loop μ-loop = search in let a = s .args in let turn = (let h : tie.At-loop Inv-loop μ-loop = search in h .loop) in
+    table-small (a .glyphs .now) (turn .g) (turn .used) _ (turn .firsts) _ (turn .numbers) _ (turn .nexts) (turn .heads) (s .pre) (turn .inv) (omega arith)) in
+    omega (arith, small)
 
 cast-nexts : tie.Need-cast-nexts Inv-loop μ-loop
 cast-nexts c =
@@ -150,24 +141,21 @@ cast-nexts c =
 
 array-write-nexts : tie.Need-array-write-nexts Inv-loop μ-loop
 array-write-nexts c =
-    let s : tie.Start Inv-loop μ-loop = search in
-    let a = s .args in
-    let turn = (let h : tie.At-loop Inv-loop μ-loop = search in h .loop) in
-    omega (arith, table-small (a .glyphs .now) (turn .g) (turn .used) _ (turn .firsts) _ (turn .numbers) _ (turn .nexts) (turn .heads) (s .pre) (turn .inv) (omega arith))
+    let small = (let s : tie.Start Inv-loop μ-loop = search in let a = s .args in let turn = (let h : tie.At-loop Inv-loop μ-loop = search in h .loop) in
+    table-small (a .glyphs .now) (turn .g) (turn .used) _ (turn .firsts) _ (turn .numbers) _ (turn .nexts) (turn .heads) (s .pre) (turn .inv) (omega arith)) in
+    omega (arith, small)
 
 add-used : tie.Need-add-used Inv-loop μ-loop
 add-used c =
-    let s : tie.Start Inv-loop μ-loop = search in
-    let a = s .args in
-    let turn = (let h : tie.At-loop Inv-loop μ-loop = search in h .loop) in
-    omega (arith, table-small (a .glyphs .now) (turn .g) (turn .used) _ (turn .firsts) _ (turn .numbers) _ (turn .nexts) (turn .heads) (s .pre) (turn .inv) (omega arith))
+    let small = (let s : tie.Start Inv-loop μ-loop = search in let a = s .args in let turn = (let h : tie.At-loop Inv-loop μ-loop = search in h .loop) in
+    table-small (a .glyphs .now) (turn .g) (turn .used) _ (turn .firsts) _ (turn .numbers) _ (turn .nexts) (turn .heads) (s .pre) (turn .inv) (omega arith)) in
+    omega (arith, small)
 
 cast-heads : tie.Need-cast-heads Inv-loop μ-loop
 cast-heads c =
-    let s : tie.Start Inv-loop μ-loop = search in
-    let a = s .args in
-    let turn = (let h : tie.At-loop Inv-loop μ-loop = search in h .loop) in
-    omega (arith, table-small (a .glyphs .now) (turn .g) (turn .used) _ (turn .firsts) _ (turn .numbers) _ (turn .nexts) (turn .heads) (s .pre) (turn .inv) (omega arith))
+    let small = (let s : tie.Start Inv-loop μ-loop = search in let a = s .args in let turn = (let h : tie.At-loop Inv-loop μ-loop = search in h .loop) in
+    table-small (a .glyphs .now) (turn .g) (turn .used) _ (turn .firsts) _ (turn .numbers) _ (turn .nexts) (turn .heads) (s .pre) (turn .inv) (omega arith)) in
+    omega (arith, small)
 
 array-write-heads : tie.Need-array-write-heads Inv-loop μ-loop
 array-write-heads c =
@@ -193,17 +181,15 @@ cast-numbers c =
 
 slice-write-numbers : tie.Need-slice-write-numbers Inv-loop μ-loop
 slice-write-numbers c =
-    let s : tie.Start Inv-loop μ-loop = search in
-    let a = s .args in
-    let turn = (let h : tie.At-loop Inv-loop μ-loop = search in h .loop) in
-    omega (arith, table-small (a .glyphs .now) (turn .g) (turn .used) _ (turn .firsts) _ (turn .numbers) _ (turn .nexts) (turn .heads) (s .pre) (turn .inv) (omega arith))
+    let small = (let s : tie.Start Inv-loop μ-loop = search in let a = s .args in let turn = (let h : tie.At-loop Inv-loop μ-loop = search in h .loop) in
+    table-small (a .glyphs .now) (turn .g) (turn .used) _ (turn .firsts) _ (turn .numbers) _ (turn .nexts) (turn .heads) (s .pre) (turn .inv) (omega arith)) in
+    omega (arith, small)
 
 add-g : tie.Need-add-g Inv-loop μ-loop
 add-g c =
-    let s : tie.Start Inv-loop μ-loop = search in
-    let a = s .args in
-    let turn = (let h : tie.At-loop Inv-loop μ-loop = search in h .loop) in
-    omega (arith, table-small (a .glyphs .now) (turn .g) (turn .used) _ (turn .firsts) _ (turn .numbers) _ (turn .nexts) (turn .heads) (s .pre) (turn .inv) (omega arith))
+    let small = (let s : tie.Start Inv-loop μ-loop = search in let a = s .args in let turn = (let h : tie.At-loop Inv-loop μ-loop = search in h .loop) in
+    table-small (a .glyphs .now) (turn .g) (turn .used) _ (turn .firsts) _ (turn .numbers) _ (turn .nexts) (turn .heads) (s .pre) (turn .inv) (omega arith)) in
+    omega (arith, small)
 
 loop-less : tie.Need-loop-less Inv-loop μ-loop
 loop-less c = omega arith
