@@ -54,7 +54,7 @@ module _ (glyphs : List ℕ) where
       let low : c < patternsIn glyphs = cell-in-count g at in
       let first = first-has (glyphsIn glyphs) c (omega arith) low in
       let like = cell-like glyphs (firstIn glyphs c) g (first .1) in
-      ap (λ (r : ℕ). bitSet r j) (font-row c l (omega arith) row ∙ row-first c l low) ∙ same-dots glyphs (firstIn glyphs c) g like l j row column
+      ap (λ (r : ℕ). bitSet r j) (font-row c l (omega arith) (omega arith) ∙ row-first c l low) ∙ same-dots glyphs (firstIn glyphs c) g like l j (omega arith) (omega arith)
 
   -- the rows are a font's
   row-small : areGlyphs glyphs ≡ true → (c l : ℕ) → packedRow glyphs c l ≤ mostRow
