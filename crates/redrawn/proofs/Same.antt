@@ -92,7 +92,7 @@ module _ (glyphs font : List ℕ) (cell : ℕ → ℕ) (by : ShownBy glyphs font
   unfolding isItem wordFor inCell
   reads (Character colour glyph blink) e =
       let parts = character-parts colour glyph blink e in
-      let in-font = by .cell-in glyph (parts .1) in
+      let in-font = by .cell-in glyph (omega (arith, parts .1)) in
       let in-bits = marked-most colour blink (parts .0) in
       let w = wordFor cell (Character colour glyph blink) in
       let code = code-back (cell glyph) (marked colour blink) (omega arith) in-bits in
@@ -120,7 +120,7 @@ module _ (glyphs font : List ℕ) (cell : ℕ → ℕ) (by : ShownBy glyphs font
   unfolding isItem wordFor
   most-word (Character colour glyph blink) e =
       let parts = character-parts colour glyph blink e in
-      omega (arith, by .cell-in glyph (parts .1), marked-most colour blink (parts .0))
+      omega (arith, by .cell-in glyph (omega (arith, parts .1)), marked-most colour blink (parts .0))
   most-word (Space background) e = omega (arith, marked-most background false (leb-true background mostColour e))
   most-word (Return size spacing) e = let parts = return-parts size spacing e in omega arith
   most-word End e = omega arith
@@ -207,4 +207,5 @@ pub same-pictures : SamePictures
 same-pictures = same-picture
 
 pub packed-pictures : PackedPictures
-packed-pictures glyphs font cells used told = same-pictures glyphs (fontGiven glyphs font cells) (cellGiven glyphs font cells) (shows-each glyphs font cells used told)
+packed-pictures glyphs font cells used told items screen =
+    same-pictures glyphs (fontGiven glyphs font cells) (cellGiven glyphs font cells) (shows-each glyphs font cells used told) items screen

@@ -26,6 +26,10 @@ number g = min g 61
 abbrev pub glyphs : List ℕ
 glyphs = tabulate (cellRows * count) (λ (i : ℕ). number (i / cellRows))
 
+-- so many patterns they are
+abbrev pub different : ℕ
+different = 62
+
 -- the last glyph in white, and an end
 abbrev pub items : List Kind
 items = Character 7 63 false ∷ replicate 63 End
@@ -39,7 +43,7 @@ line = 9 ∷ 9 ∷ 9 ∷ 9 ∷ 9 ∷ 9 ∷ 15 ∷ 15 ∷ 15 ∷ 15 ∷ 9 ∷ 15 
 
 -- packed with these lent for the font and the cells, and painted in 16 bytes
 pub record Example (font cells : List ℕ) : Type 0 where
-  pub packed : Accepted glyphs font cells 62
+  pub packed : Accepted glyphs font cells different
   pub shared : cellGiven glyphs font cells 63 ≡ 61
   pub screen : isScreen (glyphsIn glyphs) items ≡ true
   pub drawn : lineOf items (fontDot glyphs) settings 0 (record { 0 = 0 }) (record { 0 = 14 }) ≡ line

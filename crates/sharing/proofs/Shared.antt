@@ -105,7 +105,7 @@ pub shows-each : ShowsEach
 shows-each = shows-each-one
 
 pub in-order : InOrder
-in-order = in-order-one
+in-order glyphs font cells used told g c at l = in-order-one glyphs font cells used told g c at (omega arith)
 
 pub all-given : AllGiven
 all-given glyphs font cells used told =
@@ -115,4 +115,4 @@ all-given glyphs font cells used told =
     }
 
 pub rest-empty : RestEmpty
-rest-empty = rest-empty-one
+rest-empty glyphs font cells used told c l a b d = rest-empty-one glyphs font cells used told c l (omega arith) b d
