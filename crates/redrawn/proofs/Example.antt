@@ -25,11 +25,11 @@ use Rattle.packer.specs.Glyphs.{glyphsIn, samePattern, isFirst, patternsBefore,
 use Rattle.packer.specs.Packing.{areGlyphs, answerOf}
 use Rattle.packer.proofs.Dots.{same-dots, dots-same}
 use Rattle.packer.proofs.Patterns.{none-before, first-where, cell-first, like-cell}
-use Rattle.sharing.specs.Sharing.{Accepted, cellGiven}
+use Rattle.sharing.specs.Sharing.{Accepted}
 use Rattle.sharing.proofs.Shared.{given-is}
 use Rattle.redrawn.specs.Screen.{isItem, areItems, isScreen}
 use Rattle.redrawn.specs.Picture.{answerBy}
-use Rattle.redrawn.specs.Example.{count, number, glyphs, different, items, settings, line, Example, Examples}
+use Rattle.redrawn.specs.Example.{count, number, glyphs, different, items, settings, line, Examples}
 use Rattle.redrawn.proofs.Same.{packed-pictures}
 
 rows : length glyphs ≡ cellRows * count

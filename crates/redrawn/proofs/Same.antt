@@ -9,7 +9,6 @@ use native.Mathlib.Omega.{arith}
 use borrow.Author.Tests.{leb-true, ltb-true, eqb-true, le-leb, eq-eqb, ne-eqb}
 use lib.Dec.{eqb}
 use lib.ListN.{length, drop, length-map}
-use Rattle.laws.specs.Pick.{pick}
 use Rattle.laws.specs.Within.{within}
 use Rattle.laws.proofs.Both.{both-parts}
 use Rattle.font.specs.Font.{cellRows, cellColumns, fontDot}
@@ -20,7 +19,7 @@ use Rattle.judging.specs.declared.Settings.{Settings}
 use Rattle.judging.specs.Judging.{wordCount, mostWord, mostColour, areWords, answerOf}
 use Rattle.display.specs.declared.Kind.{Kind}
 use Rattle.display.specs.declared.Kind.the-variants.{Character, Space, Return, End}
-use Rattle.display.specs.Words.{codeOf, returnCode, spaceCode, colourOf, markOf, sizeOf, spacingOf, kindOf, kindsOf}
+use Rattle.display.specs.Words.{codeOf, returnCode, spaceCode, colourOf, sizeOf, spacingOf, kindOf, kindsOf}
 use Rattle.display.specs.Cells.{Shown, character, space, kindCell, afterWord, rowPen}
 use Rattle.display.specs.Painting.{firstDot, firstLine, lineOf, leftBy}
 use Rattle.display.proofs.Corollaries.{SameShown, Alike, SameKind, alike-cells, same-line}

@@ -9,10 +9,9 @@ use native.Mathlib.Decide.{decLt}
 use native.Mathlib.Omega.{arith}
 use borrow.Author.Tests.{eqb-true, eq-eqb, ne-eqb, ltb-true, lt-ltb}
 use lib.Dec.{eqb, ltb}
-use lib.ListN.{length}
 use Rattle.laws.specs.Pick.{pick}
-use Rattle.laws.specs.Lists.{firstOf, countOf}
-use Rattle.laws.specs.Said.{Said, accepted, refused}
+use Rattle.laws.specs.Lists.{firstOf}
+use Rattle.laws.specs.Said.{accepted, refused}
 use Rattle.laws.proofs.Lists.{first-none, first-before}
 use Rattle.laws.proofs.Counts.{count-weaker, count-apart}
 use Rattle.laws.proofs.Said.{number-of}
@@ -21,7 +20,7 @@ use Rattle.packer.specs.Glyphs.{glyphsIn, samePattern, isFirst, patternsBefore,
 use Rattle.packer.specs.Packing.{areGlyphs, roomFor, answerOf}
 use Rattle.packer.proofs.Dots.{dots-same}
 use Rattle.packer.proofs.Patterns.{none-before, first-where, like-cell}
-use Rattle.sharing.specs.Sharing.{Accepted, fontGiven, cellGiven, Shows, differentOf, Fewest, ShownBy, TooManyExactly}
+use Rattle.sharing.specs.Sharing.{fontGiven, cellGiven, Shows, differentOf, Fewest, ShownBy, TooManyExactly}
 use Rattle.sharing.proofs.Cells.{cell-in-count, cell-shows, font-is}
 use Rattle.sharing.proofs.Shared.{taken-by, given-is, shows-each}
 

@@ -1,7 +1,7 @@
 -- What an accepted call gives: who shares a cell, that each cell shows its glyphs, and the order of the cells. The font and the cells given are the
 -- account's.
 -- Assumes nothing.
-use Prim.Native.Nat.{ℕ, _+_, _*_, _/_, _%_, _<_, _≤_}
+use Prim.Native.Nat.{ℕ, _/_, _%_, _<_, _≤_}
 use mathlib.Core.Path.{_≡_, refl, sym, _∙_, ap}
 use mathlib.Core.Bool.{Bool, true, false, not}
 use mathlib.Core.List.{List, _++_}
@@ -16,11 +16,11 @@ use Rattle.laws.specs.Said.{Said, accepted, refused}
 use Rattle.laws.proofs.Lists.{length-tabulate, getD-tabulate}
 use Rattle.laws.proofs.Said.{number-of}
 use Rattle.font.specs.Font.{fontCells, cellRows, fontRows, rowOf}
-use Rattle.packer.specs.Glyphs.{glyphsIn, SameDots, firstLike, patternsBefore, patternsIn, cellFor, firstIn, packedRow, packedFont}
+use Rattle.packer.specs.Glyphs.{glyphsIn, firstLike, patternsBefore, patternsIn, cellFor, firstIn, packedRow, packedFont}
 use Rattle.packer.specs.Packing.{areGlyphs, roomFor, answerOf, packs, fontLeft, cellsLeft}
 use Rattle.packer.proofs.Dots.{same-dots, dots-same}
 use Rattle.packer.proofs.Patterns.{first-most-here, cell-like, like-cell}
-use Rattle.sharing.specs.Sharing.{Accepted, fontGiven, cellGiven, Shares, ShownBy, ShowsEach, GivenTo, InOrder, Given, AllGiven, RestEmpty}
+use Rattle.sharing.specs.Sharing.{Accepted, fontGiven, cellGiven, Shares, ShownBy, ShowsEach, GivenTo, InOrder, AllGiven, RestEmpty}
 use Rattle.sharing.proofs.Cells.{font-row, row-rest, first-has, cell-in-count, cell-shows, font-is}
 
 -- what is known of an accepted call
