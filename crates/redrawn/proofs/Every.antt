@@ -4,7 +4,8 @@ use Prim.Native.Nat.{ℕ}
 use mathlib.Core.Path.{_≡_, refl}
 use mathlib.Core.Bool.{Bool, true}
 use native.Mathlib.Omega.{arith}
-use Rattle.laws.proofs.Tests.{upto, upto-at}
+use Rattle.laws.specs.Lists.{upto}
+use Rattle.laws.proofs.Tests.{upto-at}
 use Rattle.font.specs.Font.{fontCells}
 use Rattle.display.specs.Words.{kindOf}
 use Rattle.redrawn.specs.Screen.{isItem, EveryWord}

@@ -1,54 +1,133 @@
--- The example: the font shows the glyphs by the rules that give their rows; its line is computed from the glyphs, and painted by the theorem.
+-- The example. Its first 62 glyphs differ, as the bits of their numbers do, and the last three do not: so there are 62 patterns. Its line is computed from
+-- the glyphs, and painted by the theorem.
 -- Assumes nothing.
-use Prim.Native.Nat.{ℕ, _+_, _*_, _/_, _<_}
+use Prim.Native.Nat.{ℕ, zero, suc, _+_, _*_, _/_, _<_, _≤_}
 use mathlib.Core.Path.{_≡_, refl, sym, ap, _∙_}
-use mathlib.Core.Bool.{true}
+use mathlib.Core.Bool.{Bool, true}
 use mathlib.Core.List.{List, [], _∷_, _++_}
 use native.Mathlib.Omega.{arith}
-use lib.ListN.{replicate}
+use borrow.Author.Tests.{le-leb, eqb-true}
+use lib.Dec.{eqb}
+use lib.ListN.{length, getD, replicate}
 use Rattle.laws.specs.Lines.{firstShown}
-use Rattle.laws.specs.Lists.{tabulate}
+use Rattle.laws.specs.Lists.{tabulate, countOf, upto}
+use Rattle.laws.specs.Pick.{pick}
 use Rattle.laws.specs.Placing.{cellHas}
-use Rattle.laws.specs.Within.{within}
-use Rattle.laws.proofs.Lists.{getD-tabulate}
-use Rattle.font.specs.Font.{cellRows, fontRows, isFont, rowOf, fontDot}
+use Rattle.laws.proofs.Counts.{count-most, count-before, count-weaker, count-apart}
+use Rattle.laws.proofs.Lists.{length-tabulate, getD-tabulate}
+use Rattle.laws.proofs.Tests.{upto-at}
+use Rattle.font.specs.Font.{cellRows, cellColumns, fontRows, mostRow, rowOf, bitSet, fontDot}
+use Rattle.font.proofs.Each.{within-each}
 use Rattle.display.specs.Cells.{kindCell, afterWord, cellsFrom}
 use Rattle.display.specs.Picture.{shownDot, dotAt}
 use Rattle.display.specs.Painting.{dotOf, lineOf}
+use Rattle.packer.specs.Glyphs.{glyphsIn, samePattern, isFirst, patternsBefore, patternsIn, cellFor}
+use Rattle.packer.specs.Packing.{areGlyphs, answerOf}
+use Rattle.packer.proofs.Dots.{same-dots, dots-same}
+use Rattle.packer.proofs.Patterns.{none-before, first-where, cell-first, like-cell}
+use Rattle.sharing.specs.Sharing.{Accepted}
+use Rattle.sharing.proofs.Shared.{given-is}
 use Rattle.redrawn.specs.Screen.{isItem, areItems, isScreen}
-use Rattle.redrawn.specs.Picture.{Shows, answerBy}
-use Rattle.redrawn.specs.Example.{count, cell, glyphs, font, items, settings, line, Example}
-use Rattle.redrawn.proofs.Same.{shows-rows, same-pictures}
+use Rattle.redrawn.specs.Picture.{answerBy}
+use Rattle.redrawn.specs.Example.{count, number, glyphs, different, items, settings, line, Examples}
+use Rattle.redrawn.proofs.Same.{packed-pictures}
 
-is-font : isFont font ≡ true
-unfolding isFont within tabulate
-is-font = refl
+rows : length glyphs ≡ cellRows * count
+rows = length-tabulate (cellRows * count) (λ (i : ℕ). number (i / cellRows))
 
--- both rows have the number of the cell
-same-row : (g l : ℕ) → g < count → l < cellRows → rowOf font (cell g) l ≡ rowOf glyphs g l
-same-row g l in-glyphs in-row =
-    getD-tabulate fontRows (λ (i : ℕ). i / cellRows) (cellRows * cell g + l) 0 (omega arith)
-    ∙ omega arith
-    ∙ sym (getD-tabulate (cellRows * count) (λ (i : ℕ). cell (i / cellRows)) (cellRows * g + l) 0 (omega arith))
+how-many : glyphsIn glyphs ≡ count
+how-many = omega (arith, rows)
 
-is-screen : isScreen count items ≡ true
+each-row : (k : ℕ) → k < length glyphs → getD glyphs k 0 ≤ mostRow
+each-row k l = omega (arith, getD-tabulate (cellRows * count) (λ (i : ℕ). number (i / cellRows)) k 0 (omega (arith, rows)))
+
+are-glyphs : areGlyphs glyphs ≡ true
+unfolding areGlyphs
+are-glyphs = rw (rows, within-each mostRow glyphs each-row)
+
+row-is : (g l : ℕ) → g < count → l < cellRows → rowOf glyphs g l ≡ number g
+row-is g l at row = getD-tabulate (cellRows * count) (λ (i : ℕ). number (i / cellRows)) (cellRows * g + l) 0 (omega arith) ∙ omega arith
+
+alike : (g h : ℕ) → g < count → h < count → number g ≡ number h → samePattern glyphs g h ≡ true
+alike g h at there e =
+    dots-same glyphs g h (λ l j row column. ap (λ (r : ℕ). bitSet r j) (row-is g l at row ∙ e ∙ sym (row-is h l there row)))
+
+-- the last six columns of a row tell the numbers below 62 apart: they give the number back
+from-bits : (a b c d e f : Bool) → ℕ
+from-bits a b c d e f = pick a 32 0 + pick b 16 0 + pick c 8 0 + pick d 4 0 + pick e 2 0 + pick f 1 0
+
+back : ℕ → ℕ
+back row = from-bits (bitSet row 6) (bitSet row 7) (bitSet row 8) (bitSet row 9) (bitSet row 10) (bitSet row 11)
+
+computed : upto 62 (λ g. eqb (back g) g) ≡ true
+unfolding back from-bits
+computed = refl
+
+back-is : (g : ℕ) → g < 62 → back (rowOf glyphs g 0) ≡ g
+back-is g l = ap back (row-is g 0 (omega arith) (omega arith) ∙ omega arith) ∙ eqb-true (back g) g (upto-at 62 (λ g. eqb (back g) g) computed g l)
+
+unlike : (g h : ℕ) → h < g → g < 62 → samePattern glyphs g h ≡ true → ⊥
+unfolding back
+unlike g h before at like =
+    let same : back (rowOf glyphs g 0) ≡ back (rowOf glyphs h 0) = λ i. from-bits (dot 6 (omega arith) i) (dot 7 (omega arith) i) (dot 8 (omega arith) i) (dot 9 (omega arith) i) (dot 10 (omega arith) i) (dot 11 (omega arith) i) in
+    omega (arith, same, back-is g at, back-is h (omega arith))
+  where
+    dot : (j : ℕ) → j < cellColumns → fontDot glyphs g 0 j ≡ fontDot glyphs h 0 j
+    dot j column = same-dots glyphs g h like 0 j (omega arith) column
+
+is-first : (g : ℕ) → g < 62 → isFirst glyphs g ≡ true
+is-first g at = first-where glyphs g (λ h before like. unlike g h before at like)
+
+ones : (n : ℕ) → countOf n (λ (g : ℕ). true) ≡ n
+unfolding countOf
+ones zero = refl
+ones (suc n) = omega (arith, ones n)
+
+least : (n : ℕ) → n ≤ 62 → n ≤ patternsBefore glyphs n
+unfolding patternsBefore
+least n le = omega (arith, ones n, count-weaker (λ (g : ℕ). true) (isFirst glyphs) n (λ g l e. is-first g (omega arith)))
+
+-- 62 patterns in all, and 61 before the last of them
+patterns : patternsIn glyphs ≡ different
+unfolding patternsBefore
+patterns =
+    let most = count-apart number 62 (isFirst glyphs) count (λ g l e. omega arith)
+    (λ h g before at e first same. none-before glyphs g h first before (alike g h at (omega arith) (sym same))) in
+    ap (patternsBefore glyphs) how-many ∙ omega (arith, least 62 (omega arith), count-before (isFirst glyphs) 62 count (omega arith), most)
+
+last-cell : cellFor glyphs 63 ≡ 61
+unfolding patternsBefore
+last-cell =
+    like-cell glyphs 63 61 (alike 63 61 (omega arith) (omega arith) refl) ∙ cell-first glyphs 61 (is-first 61 (omega arith))
+    ∙ omega (arith, least 61 (omega arith), count-most (isFirst glyphs) 61)
+
+is-screen : isScreen (glyphsIn glyphs) items ≡ true
 unfolding isItem areItems
-is-screen = refl
+is-screen = rw how-many
 
-shows : Shows glyphs count font cell
-shows = shows-rows glyphs count font cell is-font (λ g lt. omega arith) same-row
+-- its line, computed from the glyphs: by the one row that it shows
+by-row : ℕ → List ℕ
+by-row row = lineOf items (λ g l j. bitSet row j) settings 0 (record { 0 = 0 }) (record { 0 = 14 })
 
--- its line, computed from the glyphs
 drawn : lineOf items (fontDot glyphs) settings 0 (record { 0 = 0 }) (record { 0 = 14 }) ≡ line
-unfolding dotOf dotAt firstShown cellHas cellsFrom kindCell afterWord shownDot tabulate
-drawn = refl
+unfolding by-row tabulate dotOf dotAt firstShown cellHas cellsFrom kindCell afterWord shownDot
+drawn =
+    let shown : lineOf items (fontDot glyphs) settings 0 (record { 0 = 0 }) (record { 0 = 14 }) ≡ by-row (rowOf glyphs 63 0) = refl in
+    let computed : by-row 61 ≡ line = refl in
+    shown ∙ ap by-row (row-is 63 0 (omega arith) (omega arith)) ∙ computed
 
-pub example : Example
+packed : (font cells : List ℕ) → fontRows ≤ length font → count ≤ length cells → Accepted glyphs font cells different
+unfolding answerOf
+packed font cells room places = rw (are-glyphs, patterns, how-many, le-leb fontRows (length font) room, le-leb count (length cells) places)
+
+pub example : Examples
 unfolding answerBy
-example =
+example font cells room places =
+    let told = packed font cells room places in
     record {
-      shows = shows;
+      packed = told;
+      shared = given-is glyphs font cells different told 63 (omega (arith, how-many)) ∙ last-cell;
       screen = is-screen;
       drawn = drawn;
-      painted = same-pictures glyphs count font cell shows items is-screen .painted settings 0 (record { 0 = 0 }) (record { 0 = 14 }) (replicate 16 7) refl ∙ ap (λ (l : List ℕ). l ++ (7 ∷ 7 ∷ [])) drawn;
+      painted = packed-pictures glyphs font cells different told items is-screen .painted settings 0 (record { 0 = 0 }) (record { 0 = 14 }) (replicate 16 7) refl ∙ ap (λ (l : List ℕ). l ++ (7 ∷ 7 ∷ [])) drawn;
     }

@@ -9,10 +9,9 @@ use native.Mathlib.Omega.{arith}
 use borrow.Author.Tests.{leb-true, ltb-true, eqb-true, le-leb, eq-eqb, ne-eqb}
 use lib.Dec.{eqb}
 use lib.ListN.{length, drop, length-map}
-use Rattle.laws.specs.Pick.{pick}
 use Rattle.laws.specs.Within.{within}
 use Rattle.laws.proofs.Both.{both-parts}
-use Rattle.font.specs.Font.{fontCells, cellRows, cellColumns, isFont, rowOf, bitSet, fontDot}
+use Rattle.font.specs.Font.{cellRows, cellColumns, fontDot}
 use Rattle.port.specs.Port.{wordOf}
 use Rattle.units.specs.declared.Dots.{Dots}
 use Rattle.units.specs.declared.Lines.{Lines}
@@ -20,19 +19,16 @@ use Rattle.judging.specs.declared.Settings.{Settings}
 use Rattle.judging.specs.Judging.{wordCount, mostWord, mostColour, areWords, answerOf}
 use Rattle.display.specs.declared.Kind.{Kind}
 use Rattle.display.specs.declared.Kind.the-variants.{Character, Space, Return, End}
-use Rattle.display.specs.Words.{codeOf, returnCode, spaceCode, colourOf, markOf, sizeOf, spacingOf, kindOf, kindsOf}
+use Rattle.display.specs.Words.{codeOf, returnCode, spaceCode, colourOf, sizeOf, spacingOf, kindOf, kindsOf}
 use Rattle.display.specs.Cells.{Shown, character, space, kindCell, afterWord, rowPen}
 use Rattle.display.specs.Painting.{firstDot, firstLine, lineOf, leftBy}
 use Rattle.display.proofs.Corollaries.{SameShown, Alike, SameKind, alike-cells, same-line}
 use Rattle.display.proofs.Sound.{reads-end, reads-space, reads-return, reads-character}
+use Rattle.packer.specs.Glyphs.{glyphsIn}
+use Rattle.sharing.specs.Sharing.{ShownBy, fontGiven, cellGiven}
+use Rattle.sharing.proofs.Shared.{shows-each}
 use Rattle.redrawn.specs.Screen.{isItem, areItems, isScreen, marked, attributeFor, wordFor, wordsFor, inCell}
-use Rattle.redrawn.specs.Picture.{Shows, answerBy, SamePicture, SamePictures}
-
--- cells that have the glyphs' rows have their dots
-pub shows-rows : (glyphs : List ℕ) (n : ℕ) (font : List ℕ) (cell : ℕ → ℕ) → isFont font ≡ true → ((g : ℕ) → g < n → cell g < fontCells)
-    → ((g l : ℕ) → g < n → l < cellRows → rowOf font (cell g) l ≡ rowOf glyphs g l) → Shows glyphs n font cell
-shows-rows glyphs n font cell whole there rows =
-    record { whole = whole; there = λ g lt. omega (arith, there g lt); dots = λ g l j lt in-row in-column. ap (λ (row : ℕ). bitSet row j) (rows g l lt (omega arith)) }
+use Rattle.redrawn.specs.Picture.{answerBy, SamePicture, SamePictures, PackedPictures}
 
 -- the parts of a word of this code and attribute, read back
 module _ (code t : ℕ) (in-code : code ≤ spaceCode) (in-bits : t ≤ 15) where
@@ -73,7 +69,10 @@ module _ (m q : ℕ) (in-low : q ≤ 3) where
   lower : (4 * m + q) % 4 ≡ q
   lower = omega arith
 
-module _ (glyphs : List ℕ) (n : ℕ) (font : List ℕ) (cell : ℕ → ℕ) (shows : Shows glyphs n font cell) where
+module _ (glyphs font : List ℕ) (cell : ℕ → ℕ) (by : ShownBy glyphs font cell) where
+  abbrev n : ℕ
+  n = glyphsIn glyphs
+
   -- what the tests of an item tell
   character-parts : (colour glyph : ℕ) (blink : Bool) → isItem n (Character colour glyph blink) ≡ true → (colour ≤ mostColour) × (glyph < n)
   unfolding isItem
@@ -92,7 +91,7 @@ module _ (glyphs : List ℕ) (n : ℕ) (font : List ℕ) (cell : ℕ → ℕ) (s
   unfolding isItem wordFor inCell
   reads (Character colour glyph blink) e =
       let parts = character-parts colour glyph blink e in
-      let in-font = shows .there glyph (parts .1) in
+      let in-font = by .cell-in glyph (omega (arith, parts .1)) in
       let in-bits = marked-most colour blink (parts .0) in
       let w = wordFor cell (Character colour glyph blink) in
       let code = code-back (cell glyph) (marked colour blink) (omega arith) in-bits in
@@ -120,7 +119,7 @@ module _ (glyphs : List ℕ) (n : ℕ) (font : List ℕ) (cell : ℕ → ℕ) (s
   unfolding isItem wordFor
   most-word (Character colour glyph blink) e =
       let parts = character-parts colour glyph blink e in
-      omega (arith, shows .there glyph (parts .1), marked-most colour blink (parts .0))
+      omega (arith, by .cell-in glyph (omega (arith, parts .1)), marked-most colour blink (parts .0))
   most-word (Space background) e = omega (arith, marked-most background false (leb-true background mostColour e))
   most-word (Return size spacing) e = let parts = return-parts size spacing e in omega arith
   most-word End e = omega arith
@@ -135,7 +134,7 @@ module _ (glyphs : List ℕ) (n : ℕ) (font : List ℕ) (cell : ℕ → ℕ) (s
   same-kind (Character colour glyph blink) e =
       let in-glyphs = character-parts colour glyph blink e .1 in
       let dots : (l j : ℕ) → l < cellRows → j < cellColumns → fontDot font (cell glyph) l j ≡ fontDot glyphs glyph l j =
-      λ l j in-row in-column. shows .dots glyph l j in-glyphs (omega arith) (omega arith) in
+      λ l j in-row in-column. by .shows glyph l j in-glyphs (omega arith) (omega arith) in
       record {
         cells = λ x y size back. alike-one x y size back (character colour (cell glyph) blink) (character colour glyph blink) (refl, (refl, dots));
         moves = λ left p. refl;
@@ -179,7 +178,7 @@ module _ (glyphs : List ℕ) (n : ℕ) (font : List ℕ) (cell : ℕ → ℕ) (s
 
     answers : (s : Settings) (line : Lines) (width : Dots) (room : ℕ) → answerOf (wordsFor cell items) font s line width room ≡ answerBy s line width room
     unfolding answerOf answerBy
-    answers s line width room = rw (are-words, shows .whole)
+    answers s line width room = rw (are-words, by .font-is)
 
     -- the line of the words is that of the glyphs
     same : (s : Settings) (frame : ℕ) (line : Lines) (width : Dots)
@@ -205,3 +204,7 @@ module _ (glyphs : List ℕ) (n : ℕ) (font : List ℕ) (cell : ℕ → ℕ) (s
 
 pub same-pictures : SamePictures
 same-pictures = same-picture
+
+pub packed-pictures : PackedPictures
+packed-pictures glyphs font cells used told items screen =
+    same-pictures glyphs (fontGiven glyphs font cells) (cellGiven glyphs font cells) (shows-each glyphs font cells used told) items screen

@@ -1,32 +1,34 @@
--- Such screens there are, also of more glyphs than a font has cells: 64 glyphs, of which the last three are drawn alike, and a screen that names glyph 63.
+-- Such screens there are, also of more glyphs than a font has cells: 64 glyphs, of which the last three are drawn alike. The packer takes them into 62
+-- cells, and a screen names glyph 63.
 -- Assumes nothing.
-use Prim.Native.Nat.{ℕ, _*_, _/_, min}
+use Prim.Native.Nat.{ℕ, _*_, _/_, _≤_, min}
 use mathlib.Core.Path.{_≡_}
 use mathlib.Core.Bool.{true, false}
 use mathlib.Core.List.{List, [], _∷_, _++_}
-use lib.ListN.{replicate}
+use lib.ListN.{length, replicate}
 use Rattle.laws.specs.Lists.{tabulate}
 use Rattle.font.specs.Font.{cellRows, fontRows, fontDot}
 use Rattle.judging.specs.declared.Settings.{Settings}
 use Rattle.display.specs.declared.Kind.{Kind}
 use Rattle.display.specs.declared.Kind.the-variants.{Character, End}
 use Rattle.display.specs.Painting.{lineOf, leftBy}
+use Rattle.packer.specs.Glyphs.{glyphsIn}
+use Rattle.sharing.specs.Sharing.{Accepted, fontGiven, cellGiven}
 use Rattle.redrawn.specs.Screen.{isScreen, wordsFor}
-use Rattle.redrawn.specs.Picture.{Shows}
 
 abbrev pub count : ℕ
 count = 64
 
--- each glyph's cell: its own number, but that the last three share one
-abbrev pub cell : ℕ → ℕ
-cell g = min g 61
+-- each row of a glyph has the glyph's number, but that the last three have 61
+abbrev pub number : ℕ → ℕ
+number g = min g 61
 
--- each row of a glyph has the number of its cell, and so has each row of the cell
 abbrev pub glyphs : List ℕ
-glyphs = tabulate (cellRows * count) (λ (i : ℕ). cell (i / cellRows))
+glyphs = tabulate (cellRows * count) (λ (i : ℕ). number (i / cellRows))
 
-abbrev pub font : List ℕ
-font = tabulate fontRows (λ (i : ℕ). i / cellRows)
+-- so many patterns they are
+abbrev pub different : ℕ
+different = 62
 
 -- the last glyph in white, and an end
 abbrev pub items : List Kind
@@ -39,8 +41,14 @@ settings = record { on = true; mode = 2; colour = 1; h = 0; v = 0; ratio = 0; fr
 abbrev pub line : List ℕ
 line = 9 ∷ 9 ∷ 9 ∷ 9 ∷ 9 ∷ 9 ∷ 15 ∷ 15 ∷ 15 ∷ 15 ∷ 9 ∷ 15 ∷ 0 ∷ 0 ∷ []
 
-pub record Example : Type 0 where
-  pub shows : Shows glyphs count font cell
-  pub screen : isScreen count items ≡ true
+-- packed with these lent for the font and the cells, and painted in 16 bytes
+pub record Example (font cells : List ℕ) : Type 0 where
+  pub packed : Accepted glyphs font cells different
+  pub shared : cellGiven glyphs font cells 63 ≡ 61
+  pub screen : isScreen (glyphsIn glyphs) items ≡ true
   pub drawn : lineOf items (fontDot glyphs) settings 0 (record { 0 = 0 }) (record { 0 = 14 }) ≡ line
-  pub painted : leftBy (wordsFor cell items) font settings 0 (record { 0 = 0 }) (record { 0 = 14 }) (replicate 16 7) ≡ line ++ (7 ∷ 7 ∷ [])
+  pub painted : leftBy (wordsFor (cellGiven glyphs font cells) items) (fontGiven glyphs font cells) settings 0 (record { 0 = 0 }) (record { 0 = 14 }) (replicate 16 7) ≡ line ++ (7 ∷ 7 ∷ [])
+
+-- whatever lies there before, if there is room for a font and for 64 cells
+abbrev pub Examples : Type 0
+Examples = (font cells : List ℕ) → fontRows ≤ length font → count ≤ length cells → Example font cells

@@ -1,8 +1,8 @@
 -- The same picture: document 02, M-100. Take a screen whose characters name drawn glyphs. Painted with each glyph's cell in its place, it is the picture
--- made of the glyphs themselves. Said of any font and any cells that show the glyphs: how they were found does not matter here.
+-- made of the glyphs themselves. Said of every accepted call of the packer; and first of any font and any cells that show the glyphs, however they were found.
 -- Drawn glyphs lie in a list of rows as the cells of a font do, 18 rows each, so `fontDot glyphs` draws them.
 -- Assumes nothing.
-use Prim.Native.Nat.{ℕ, _<_}
+use Prim.Native.Nat.{ℕ}
 use mathlib.Core.Path.{_≡_}
 use mathlib.Core.Bool.{true, not}
 use mathlib.Core.List.{List, _++_, map}
@@ -10,7 +10,7 @@ use lib.Dec.{ltb, eqb}
 use lib.ListN.{length, drop}
 use Rattle.laws.specs.Pick.{pick}
 use Rattle.laws.specs.Said.{Said, accepted, refused}
-use Rattle.font.specs.Font.{fontCells, cellRows, cellColumns, isFont, fontDot}
+use Rattle.font.specs.Font.{fontDot}
 use Rattle.units.specs.declared.Dots.{Dots}
 use Rattle.units.specs.declared.Lines.{Lines}
 use Rattle.judging.specs.declared.Settings.{Settings}
@@ -18,13 +18,9 @@ use Rattle.judging.specs.Judging.{mostRatio, inRange, areWords, onScreen, answe
 use Rattle.display.specs.declared.Kind.{Kind}
 use Rattle.display.specs.Words.{kindsOf}
 use Rattle.display.specs.Painting.{lineOf, leftBy}
+use Rattle.packer.specs.Glyphs.{glyphsIn}
+use Rattle.sharing.specs.Sharing.{ShownBy, Accepted, fontGiven, cellGiven}
 use Rattle.redrawn.specs.Screen.{isScreen, wordsFor, inCell}
-
--- a font shows glyphs 0 to n - 1: each has a cell of the font, and the cell has the glyph's dots
-pub record Shows (glyphs : List ℕ) (n : ℕ) (font : List ℕ) (cell : ℕ → ℕ) : Type 0 where
-  pub whole : isFont font ≡ true
-  pub there : (g : ℕ) → g < n → cell g < fontCells
-  pub dots : (g l j : ℕ) → g < n → l < cellRows → j < cellColumns → fontDot font (cell g) l j ≡ fontDot glyphs g l j
 
 -- what a call answers that has right words and a right font: its settings, its line and width, and the room decide
 unfoldable pub answerBy : Settings → Lines → Dots → ℕ → Said
@@ -52,5 +48,11 @@ pub record SamePicture (glyphs font : List ℕ) (cell : ℕ → ℕ) (items : Li
 -- it is so of every screen of glyphs that a font shows
 abbrev pub SamePictures : Type 0
 SamePictures =
-    (glyphs : List ℕ) (n : ℕ) (font : List ℕ) (cell : ℕ → ℕ) → Shows glyphs n font cell
-    → (items : List Kind) → isScreen n items ≡ true → SamePicture glyphs font cell items
+    (glyphs font : List ℕ) (cell : ℕ → ℕ) → ShownBy glyphs font cell
+    → (items : List Kind) → isScreen (glyphsIn glyphs) items ≡ true → SamePicture glyphs font cell items
+
+-- so it is of the font and the cells that an accepted call of the packer gives
+abbrev pub PackedPictures : Type 0
+PackedPictures =
+    (glyphs font cells : List ℕ) (used : ℕ) → Accepted glyphs font cells used
+    → (items : List Kind) → isScreen (glyphsIn glyphs) items ≡ true → SamePicture glyphs (fontGiven glyphs font cells) (cellGiven glyphs font cells) items

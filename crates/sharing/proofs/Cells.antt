@@ -2,20 +2,18 @@
 -- the rows are a font's.
 -- Assumes nothing.
 use Prim.Native.Nat.{ℕ, _+_, _*_, _/_, _%_, _<_, _≤_}
-use mathlib.Core.Path.{_≡_, refl, sym, _∙_, ap}
+use mathlib.Core.Path.{_≡_, _∙_, ap}
 use mathlib.Core.Bool.{Bool, true, false}
 use mathlib.Core.List.{List}
 use native.Mathlib.Omega.{arith}
 use borrow.Author.Tests.{lt-ltb, le-ltb, eq-eqb}
-use lib.Dec.{ltb, eqb}
+use lib.Dec.{ltb}
 use lib.ListN.{length, getD}
 use Rattle.laws.specs.Pick.{pick}
-use Rattle.laws.specs.Lists.{tabulate}
-use Rattle.laws.specs.Within.{within}
 use Rattle.laws.proofs.Lists.{length-tabulate, getD-tabulate}
-use Rattle.font.specs.Font.{fontCells, cellRows, cellColumns, fontRows, mostRow, isFont, rowOf, bitSet, fontDot}
+use Rattle.font.specs.Font.{fontCells, cellRows, fontRows, mostRow, isFont, rowOf, bitSet}
 use Rattle.font.proofs.Each.{within-at, within-each}
-use Rattle.packer.specs.Glyphs.{glyphsIn, samePattern, patternsBefore, patternsIn, cellFor, firstIn, packedRow, packedFont}
+use Rattle.packer.specs.Glyphs.{glyphsIn, patternsBefore, patternsIn, cellFor, firstIn, packedRow, packedFont}
 use Rattle.packer.specs.Packing.{areGlyphs}
 use Rattle.packer.proofs.Asked.{taken}
 use Rattle.packer.proofs.Dots.{same-dots}
@@ -54,7 +52,7 @@ module _ (glyphs : List ℕ) where
       let low : c < patternsIn glyphs = cell-in-count g at in
       let first = first-has (glyphsIn glyphs) c (omega arith) low in
       let like = cell-like glyphs (firstIn glyphs c) g (first .1) in
-      ap (λ (r : ℕ). bitSet r j) (font-row c l (omega arith) row ∙ row-first c l low) ∙ same-dots glyphs (firstIn glyphs c) g like l j row column
+      ap (λ (r : ℕ). bitSet r j) (font-row c l (omega arith) (omega arith) ∙ row-first c l low) ∙ same-dots glyphs (firstIn glyphs c) g like l j (omega arith) (omega arith)
 
   -- the rows are a font's
   row-small : areGlyphs glyphs ≡ true → (c l : ℕ) → packedRow glyphs c l ≤ mostRow

@@ -1,26 +1,27 @@
--- What an accepted call leaves: who shares a cell, that each cell shows its glyphs, and the order of the cells. The font and the cells are the
--- account's, with what was past them behind.
+-- What an accepted call gives: who shares a cell, that each cell shows its glyphs, and the order of the cells. The font and the cells given are the
+-- account's.
 -- Assumes nothing.
-use Prim.Native.Nat.{ℕ, _+_, _*_, _/_, _%_, _<_, _≤_}
+use Prim.Native.Nat.{ℕ, _/_, _%_, _<_, _≤_}
 use mathlib.Core.Path.{_≡_, refl, sym, _∙_, ap}
 use mathlib.Core.Bool.{Bool, true, false, not}
 use mathlib.Core.List.{List, _++_}
 use native.Mathlib.Omega.{arith}
 use borrow.Author.Tests.{ltb-false}
 use lib.Dec.{eqb, ltb}
-use lib.ListN.{length, getD, drop, List·getD-append}
+use lib.ListN.{length, getD, take, drop, List·getD-append}
+use lib.Seq.{take-at}
 use Rattle.laws.specs.Pick.{pick}
 use Rattle.laws.specs.Lists.{tabulate}
 use Rattle.laws.specs.Said.{Said, accepted, refused}
 use Rattle.laws.proofs.Lists.{length-tabulate, getD-tabulate}
 use Rattle.laws.proofs.Said.{number-of}
-use Rattle.font.specs.Font.{fontCells, cellRows, cellColumns, fontRows, rowOf, bitSet}
-use Rattle.packer.specs.Glyphs.{glyphsIn, SameDots, firstLike, patternsBefore, patternsIn, cellFor, firstIn, packedRow, packedFont}
+use Rattle.font.specs.Font.{fontCells, cellRows, fontRows, rowOf}
+use Rattle.packer.specs.Glyphs.{glyphsIn, firstLike, patternsBefore, patternsIn, cellFor, firstIn, packedRow, packedFont}
 use Rattle.packer.specs.Packing.{areGlyphs, roomFor, answerOf, packs, fontLeft, cellsLeft}
 use Rattle.packer.proofs.Dots.{same-dots, dots-same}
 use Rattle.packer.proofs.Patterns.{first-most-here, cell-like, like-cell}
-use Rattle.sharing.specs.Sharing.{Accepted, cellGiven, Shares, Shows, ShowsEach, GivenTo, InOrder, Given, AllGiven, RestEmpty}
-use Rattle.sharing.proofs.Cells.{font-row, row-rest, first-has, cell-in-count, cell-shows}
+use Rattle.sharing.specs.Sharing.{Accepted, fontGiven, cellGiven, Shares, ShownBy, ShowsEach, GivenTo, InOrder, AllGiven, RestEmpty}
+use Rattle.sharing.proofs.Cells.{font-row, row-rest, first-has, cell-in-count, cell-shows, font-is}
 
 -- what is known of an accepted call
 pub record Taken (glyphs font cells : List ℕ) (used : ℕ) : Type 0 where
@@ -55,13 +56,13 @@ module _ (glyphs font cells : List ℕ) (used : ℕ) (told : Accepted glyphs fon
       ∙ List·getD-append (tabulate (glyphsIn glyphs) (cellFor glyphs)) (drop (glyphsIn glyphs) cells) 0 g (omega (arith, length-tabulate (glyphsIn glyphs) (cellFor glyphs)))
       ∙ getD-tabulate (glyphsIn glyphs) (cellFor glyphs) g 0 l
 
-  -- so is each row of the font left
-  pub left-row : (c l : ℕ) → c < fontCells → l < cellRows → rowOf (fontLeft glyphs font cells) c l ≡ rowOf (packedFont glyphs) c l
+  -- so is the font
+  pub font-given : fontGiven glyphs font cells ≡ packedFont glyphs
   unfolding fontLeft
-  left-row c l a b =
+  font-given =
       let left : fontLeft glyphs font cells ≡ packedFont glyphs ++ drop fontRows font = rw (t .packs-it) in
-      ap (λ (r : List ℕ). getD r (18 * c + l) 0) left
-      ∙ List·getD-append (packedFont glyphs) (drop fontRows font) 0 (18 * c + l) (omega (arith, length-tabulate fontRows (λ i. packedRow glyphs (i / cellRows) (i % cellRows))))
+      ap (λ (r : List ℕ). take fontRows r) left
+      ∙ take-at (packedFont glyphs) (drop fontRows font) fontRows (length-tabulate fontRows (λ i. packedRow glyphs (i / cellRows) (i % cellRows)))
 
   pub given-in : (g : ℕ) → g < glyphsIn glyphs → cellGiven glyphs font cells g < used
   given-in g l = omega (arith, given-is g l, cell-in-count glyphs g l, t .all)
@@ -70,14 +71,15 @@ module _ (glyphs font cells : List ℕ) (used : ℕ) (told : Accepted glyphs fon
   given-to n c le l =
       let has = first-has glyphs n c le l in
       let low = has .0 in
-      record { glyph = firstIn glyphs c; below = low; given = given-is (firstIn glyphs c) (omega arith) ∙ has .1 }
+      record { glyph = firstIn glyphs c; below = low; given = omega (arith, given-is (firstIn glyphs c) (omega arith), has .1) }
 
-  shows-each-one : Shows glyphs (fontLeft glyphs font cells) (cellGiven glyphs font cells)
-  shows-each-one g l j at row column =
-      let c = cellFor glyphs g in
-      let low : c < fontCells = omega (arith, cell-in-count glyphs g at, t .few) in
-      ap (λ (c : ℕ). bitSet (rowOf (fontLeft glyphs font cells) c l) j) (given-is g at)
-      ∙ ap (λ (r : ℕ). bitSet r j) (left-row c l low row) ∙ cell-shows glyphs (t .few) g l j at row column
+  shows-each-one : ShownBy glyphs (fontGiven glyphs font cells) (cellGiven glyphs font cells)
+  shows-each-one =
+      record {
+        font-is = rw font-given (font-is glyphs (t .are));
+        cell-in = λ g at. omega (arith, given-in g at, t .few, t .all);
+        shows = λ g l j at row column. rw (font-given, given-is g at) (cell-shows glyphs (t .few) g l j at row column);
+      }
 
   in-order-one : (g c : ℕ) → g < glyphsIn glyphs → c < cellGiven glyphs font cells g → GivenTo glyphs font cells g c
   unfolding cellFor
@@ -87,12 +89,14 @@ module _ (glyphs font cells : List ℕ) (used : ℕ) (told : Accepted glyphs fon
       let low = r .below in
       record { glyph = r .glyph; below = omega (arith, first-most-here glyphs g); given = r .given }
 
-  rest-empty-one : (c l : ℕ) → used ≤ c → c < fontCells → l < cellRows → rowOf (fontLeft glyphs font cells) c l ≡ 0
-  rest-empty-one c l a b d = left-row c l b d ∙ font-row glyphs c l b d ∙ row-rest glyphs c l (omega (arith, t .all))
+  rest-empty-one : (c l : ℕ) → used ≤ c → c < fontCells → l < cellRows → rowOf (fontGiven glyphs font cells) c l ≡ 0
+  rest-empty-one c l a b d = rw font-given (font-row glyphs c l b d) ∙ row-rest glyphs c l (omega (arith, t .all))
 
 pub shares : Shares
-shares glyphs font cells used told g h at there =
-    (λ e. same-dots glyphs g h (cell-like glyphs g h (sym (is g at) ∙ e ∙ is h there)), λ e. is g at ∙ like-cell glyphs g h (dots-same glyphs g h e) ∙ sym (is h there))
+shares glyphs font cells used told g h at there = (
+  λ e l j row column. same-dots glyphs g h (cell-like glyphs g h (sym (is g at) ∙ e ∙ is h there)) l j (omega arith) (omega arith),
+  λ e. is g at ∙ like-cell glyphs g h (dots-same glyphs g h (λ l j row column. e l j (omega arith) (omega arith))) ∙ sym (is h there),
+)
   where
     is : (g : ℕ) → g < glyphsIn glyphs → cellGiven glyphs font cells g ≡ cellFor glyphs g
     is = given-is glyphs font cells used told
@@ -101,7 +105,7 @@ pub shows-each : ShowsEach
 shows-each = shows-each-one
 
 pub in-order : InOrder
-in-order = in-order-one
+in-order glyphs font cells used told g c at l = in-order-one glyphs font cells used told g c at (omega arith)
 
 pub all-given : AllGiven
 all-given glyphs font cells used told =
@@ -111,4 +115,4 @@ all-given glyphs font cells used told =
     }
 
 pub rest-empty : RestEmpty
-rest-empty = rest-empty-one
+rest-empty glyphs font cells used told c l a b d = rest-empty-one glyphs font cells used told c l (omega arith) b d

@@ -1,5 +1,5 @@
--- What the packer's cells are worth: document 02, M-100. Each statement is about every call that is accepted, and about what that call leaves: the
--- font, `fontLeft`, and the places for cells, `cellsLeft`. proofs/ has why they hold.
+-- What the packer's cells are worth: document 02, M-100. Each statement is about every call that is accepted, and about what that call gives: a font, and
+-- a cell for each glyph. proofs/ has why they hold.
 -- Assumes nothing.
 use Prim.Native.Nat.{ℕ, _<_, _≤_}
 use mathlib.Core.Path.{_≡_}
@@ -7,16 +7,20 @@ use mathlib.Core.Logic.{_↔_}
 use mathlib.Core.Bool.{true}
 use mathlib.Core.List.{List}
 use lib.Dec.{eqb}
-use lib.ListN.{length, getD}
+use lib.ListN.{length, getD, take}
 use Rattle.laws.specs.Lists.{firstOf, countOf}
 use Rattle.laws.specs.Said.{accepted, refused}
-use Rattle.font.specs.Font.{fontCells, cellRows, cellColumns, isFont, rowOf, fontDot}
+use Rattle.font.specs.Font.{fontCells, cellRows, cellColumns, fontRows, isFont, rowOf, fontDot}
 use Rattle.packer.specs.Glyphs.{glyphsIn, SameDots}
 use Rattle.packer.specs.Packing.{areGlyphs, answerOf, fontLeft, cellsLeft}
 
 -- the call is accepted, and tells that the glyphs take `used` cells
 abbrev pub Accepted : List ℕ → List ℕ → List ℕ → ℕ → Type 0
 Accepted glyphs font cells used = answerOf glyphs (length font) (length cells) ≡ accepted used
+
+-- the font that it gives: the first 1,116 of the rows that were lent for it
+abbrev pub fontGiven : List ℕ → List ℕ → List ℕ → List ℕ
+fontGiven glyphs font cells = take fontRows (fontLeft glyphs font cells)
 
 -- the cell that it gives glyph g
 abbrev pub cellGiven : List ℕ → List ℕ → List ℕ → ℕ → ℕ
@@ -33,10 +37,16 @@ abbrev pub Shows : List ℕ → List ℕ → (ℕ → ℕ) → Type 0
 Shows glyphs list cell =
     (g l j : ℕ) → g < glyphsIn glyphs → l < cellRows → j < cellColumns → fontDot list (cell g) l j ≡ fontDot glyphs g l j
 
--- the cell given to each glyph shows it in the font left
+-- a font shows the glyphs: each has one of the 62 cells, which has the glyph's dots
+pub record ShownBy (glyphs font : List ℕ) (cell : ℕ → ℕ) : Type 0 where
+  pub font-is : isFont font ≡ true
+  pub cell-in : (g : ℕ) → g < glyphsIn glyphs → cell g < fontCells
+  pub shows : Shows glyphs font cell
+
+-- what the call gives is a font that shows every glyph, by the cell given to it
 abbrev pub ShowsEach : Type 0
 ShowsEach =
-    (glyphs font cells : List ℕ) (used : ℕ) → Accepted glyphs font cells used → Shows glyphs (fontLeft glyphs font cells) (cellGiven glyphs font cells)
+    (glyphs font cells : List ℕ) (used : ℕ) → Accepted glyphs font cells used → ShownBy glyphs (fontGiven glyphs font cells) (cellGiven glyphs font cells)
 
 -- cell c is given to one of the first n glyphs
 pub record GivenTo (glyphs font cells : List ℕ) (n c : ℕ) : Type 0 where
@@ -62,7 +72,7 @@ AllGiven = (glyphs font cells : List ℕ) (used : ℕ) → Accepted glyphs font 
 abbrev pub RestEmpty : Type 0
 RestEmpty =
     (glyphs font cells : List ℕ) (used : ℕ) → Accepted glyphs font cells used
-    → (c l : ℕ) → used ≤ c → c < fontCells → l < cellRows → rowOf (fontLeft glyphs font cells) c l ≡ 0
+    → (c l : ℕ) → used ≤ c → c < fontCells → l < cellRows → rowOf (fontGiven glyphs font cells) c l ≡ 0
 
 -- how many different cells n glyphs are assigned: those that no glyph before has
 unfoldable pub differentOf : ℕ → (ℕ → ℕ) → ℕ
@@ -76,15 +86,8 @@ pub record LeastUsed (glyphs font cells : List ℕ) (used : ℕ) : Type 0 where
 abbrev pub Fewest : Type 0
 Fewest = (glyphs font cells : List ℕ) (used : ℕ) → Accepted glyphs font cells used → LeastUsed glyphs font cells used
 
--- a font of 62 cells that shows every glyph
-pub record ShownBy (glyphs : List ℕ) : Type 0 where
-  pub font : List ℕ
-  pub cell : ℕ → ℕ
-  pub font-is : isFont font ≡ true
-  pub cell-in : (g : ℕ) → g < glyphsIn glyphs → cell g < fontCells
-  pub shows : Shows glyphs font cell
-
--- 17 is told exactly of glyphs that no font shows
+-- 17 is told exactly of glyphs that no font shows, whatever cells they are assigned
 abbrev pub TooManyExactly : Type 0
 TooManyExactly =
-    (glyphs : List ℕ) (rows places : ℕ) → (answerOf glyphs rows places ≡ refused 17 0) ↔ ((areGlyphs glyphs ≡ true) × (ShownBy glyphs → ⊥))
+    (glyphs : List ℕ) (rows places : ℕ)
+    → (answerOf glyphs rows places ≡ refused 17 0) ↔ ((areGlyphs glyphs ≡ true) × ((font : List ℕ) (cell : ℕ → ℕ) → ShownBy glyphs font cell → ⊥))
