@@ -27,6 +27,13 @@ use std::sync::atomic::{AtomicU64, Ordering};
 use std::sync::Mutex;
 use std::time::{Duration, Instant};
 
+/// The version that the header names.
+fn version() -> &'static str {
+    let header = include_str!("../../../include/dirgeflint.h");
+    let after = header.split("#define DIRGEFLINT_VERSION \"").nth(1).expect("the header names its version");
+    after.split('"').next().unwrap_or_default()
+}
+
 /// Cases of one sort.
 pub struct Group<'a> {
     pub name: &'a str,

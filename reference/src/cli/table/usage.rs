@@ -3,6 +3,7 @@
 use super::{END_RECORD, SAMPLE_DRAWING, SAMPLE_TEXT};
 use crate::cli::case::{case, Case, Line, Said};
 use crate::cli::expect::{check, misused, Paint, PAINT_OPTIONS};
+use crate::cli::version;
 
 /// The commands with the options that their help has to name.
 const COMMANDS: &[(&str, &[&str])] = &[
@@ -20,7 +21,7 @@ fn help() -> Vec<Case> {
         case("help", "help").out_naming(&names),
         case("help as an option", "--help").out_naming(&names),
         case("help as a short option", "-h").out_naming(&names),
-        case("version", "--version").out("dirgeflint 1.0\n"),
+        case("version", "--version").out(format!("dirgeflint {}\n", version())),
     ];
     for (command, options) in COMMANDS {
         let names: Vec<&str> = options.iter().copied().chain([*command]).collect();
