@@ -8,6 +8,7 @@ pub mod case;
 pub mod damage;
 pub mod expect;
 pub mod folder;
+pub mod glyphs;
 #[cfg(test)]
 mod planted;
 pub mod program;

@@ -278,6 +278,7 @@ pub fn waves(index: u64, random: &mut Random) -> Case {
 mod tests {
     use super::*;
     use crate::cli::case::Said;
+    use crate::cli::glyphs::Naming;
     use crate::cli::screen::screen;
     use crate::cli::wave::{events, Wave};
 
@@ -285,7 +286,7 @@ mod tests {
     fn every_screen_is_good_and_every_sort_of_word_is_there() {
         let mut random = Random::new(5);
         let texts: Vec<String> = (0..300).map(|_| screen_text(&mut random)).collect();
-        assert!(texts.iter().all(|text| screen(text.as_bytes()).is_ok()));
+        assert!(texts.iter().all(|text| screen(text.as_bytes(), &Naming::default()).is_ok()));
         for sort in ["character", "space", "return", "end", "blink", "0x", "\r\n", ";", "#"] {
             assert!(texts.iter().any(|text| text.contains(sort)), "{sort}");
         }
