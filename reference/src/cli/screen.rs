@@ -215,16 +215,14 @@ mod tests {
         let rows = "............\n".repeat(18);
         let drawn = drawings(format!("glyph A\n{rows}glyph b\n{rows}").as_bytes()).unwrap();
         let table = table(b"cell 7 A\ncell 7 b\ncell 9 more").unwrap();
-        let codes = |drawn, text: &str| {
+        let code = |kind: &Kind| match kind {
+            Kind::Character { code, .. } => Some(*code),
+            _ => None,
+        };
+        let codes = |drawn, text: &str| -> Result<Vec<u16>, String> {
             let naming = Naming { table: Some(&table), drawn };
             let words = super::screen(text.as_bytes(), &naming).map_err(|fault| fault.said("S").to_string())?;
-            Ok(words
-                .iter()
-                .map_while(|kind| match kind {
-                    Kind::Character { code, .. } => Some(*code),
-                    _ => None,
-                })
-                .collect())
+            Ok(words.iter().map_while(code).collect())
         };
         let text = "character A red\ncharacter b red blink\ncharacter more red\ncharacter 7 red\n14\n";
         assert_eq!(codes(None, text), Ok(vec![7, 7, 9, 7, 0]));
