@@ -52,6 +52,10 @@ fn broken(name: &[u8]) -> Vec<&'static str> {
     rules.into_iter().filter(|(is, _)| *is).map(|(_, word)| word).collect()
 }
 
+pub fn is_name(word: &[u8]) -> bool {
+    broken(word).is_empty()
+}
+
 /// A name, or what a message about it has to have.
 fn name(word: &[u8]) -> Result<String, Vec<&'static str>> {
     match broken(word)[..] {

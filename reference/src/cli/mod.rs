@@ -12,6 +12,7 @@ pub mod glyphs;
 #[cfg(test)]
 mod planted;
 pub mod program;
+pub mod random_glyphs;
 pub mod randomly;
 mod report;
 pub mod screen;
