@@ -27,7 +27,7 @@ struct Request {
 fn request(arguments: impl Iterator<Item = String>) -> Result<Request, String> {
     let program = std::env::var_os("DIRGEFLINT_PROGRAM");
     let seed = reference::compare::DEFAULT_SEED;
-    let mut request = Request { groups: Vec::new(), seed, from: 0, count: None, damage: 2_000, program };
+    let mut request = Request { groups: Vec::new(), seed, from: 0, count: None, damage: 2_800, program };
     let mut arguments = arguments;
     while let Some(argument) = arguments.next() {
         let mut value = || arguments.next().ok_or(format!("{argument} wants a value after it"));

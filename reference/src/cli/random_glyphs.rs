@@ -78,21 +78,21 @@ fn pattern(others: &[Glyph], random: &mut Random) -> Glyph {
     glyph
 }
 
-/// Glyphs of which many are alike.
+/// Glyphs of which many are alike; now and then there are too many, or too many are different.
 fn some_glyphs(random: &mut Random) -> Vec<Glyph> {
+    let most = match random.below(10) {
+        0 => random.pick(&[63, 63, 64, 200]),
+        1 => 1,
+        2..=4 => 62,
+        _ => random.between(1, 62),
+    };
     let number = match random.below(12) {
+        _ if most > 62 => random.between(2 * most, 256.max(2 * most)),
         0..=3 => random.between(1, 8),
         4..=7 => random.between(20, 90),
         8 => random.pick(&[61, 62, 63, 255]),
         9 => random.between(257, 300),
         _ => 256,
-    };
-    let most = match random.below(10) {
-        0 => 63,
-        1 => random.between(64, 256),
-        2 => 1,
-        3..=5 => 62,
-        _ => random.between(1, 62),
     };
     let mut patterns: Vec<Glyph> = Vec::new();
     let mut glyphs = Vec::new();
