@@ -182,10 +182,31 @@ fn a_drawing(random: &mut Random) -> Vec<u8> {
     }
 }
 
+/// The sample's glyphs as a careless person leaves them: some are left out, moved or drawn twice, dots are wrong.
+fn careless_glyphs(random: &mut Random) -> Vec<u8> {
+    let drawings = String::from_utf8_lossy(SAMPLE_GLYPHS);
+    let one_in = random.pick(&[2, 20, 60]);
+    let mut glyphs: Vec<String> = drawings.split("\nglyph ").map(|glyph| format!("\nglyph {glyph}")).skip(1).collect();
+    glyphs.retain(|_| !random.one_in(one_in));
+    for glyph in &mut glyphs {
+        if random.one_in(one_in) {
+            let (dot, other) = random.pick(&[("#.", ".."), (".#", "##"), (".", "#"), ("#", ".")]);
+            *glyph = glyph.replacen(dot, other, 1);
+        }
+    }
+    if random.one_in(2) && !glyphs.is_empty() {
+        let (from, to) = (random.below(glyphs.len()), random.below(glyphs.len()));
+        let glyph = if random.one_in(2) { glyphs.remove(from) } else { glyphs[from].clone() };
+        glyphs.insert(to.min(glyphs.len()), glyph);
+    }
+    glyphs.concat().into_bytes()
+}
+
 fn drawn_glyphs(random: &mut Random) -> Vec<u8> {
-    match random.below(10) {
+    match random.below(12) {
         0 => noise(random),
         1 => damaged(SAMPLE_DRAWING, random),
+        10 | 11 => careless_glyphs(random),
         2..=4 => {
             let text = drawings_text(random);
             damaged(text, random)

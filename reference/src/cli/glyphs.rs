@@ -47,7 +47,7 @@ fn broken(name: &[u8]) -> Vec<&'static str> {
         (name.iter().any(|byte| b";#".contains(byte)), "comment"),
         (name.len() > LONGEST_NAME, "64 bytes"),
         (std::str::from_utf8(name).is_err(), "UTF-8"),
-        (std::str::from_utf8(name).is_ok_and(|name| name.chars().any(hidden)), "show"),
+        (String::from_utf8_lossy(name).chars().any(hidden), "show"),
     ];
     rules.into_iter().filter(|(is, _)| *is).map(|(_, word)| word).collect()
 }
@@ -198,7 +198,7 @@ impl Drawings {
                 (patterns[CELLS], patterns.len(), patterns.len() - CELLS, self.most_alike(&patterns))
             }
         };
-        let names = vec![shown(&self.names[glyph]), number_of.to_string(), left_out.to_string()];
+        let names = vec![shown(&self.names[glyph]), number_of.to_string(), format!("leave out {left_out}")];
         Fault { line: Some(self.lines[glyph]), names, one_of, refused: Some(number) }
     }
 
@@ -398,6 +398,7 @@ mod tests {
             assert_eq!(broken(wrong), ["UTF-8"]);
         }
         assert_eq!(judged("7;"), ["digit", "comment"]);
+        assert_eq!(broken(b"\x1A\xA3"), ["UTF-8", "show"]);
     }
 
     #[test]
@@ -424,8 +425,8 @@ mod tests {
     #[test]
     fn refusals_name_what_to_do() {
         let said = |numbers: Vec<usize>| fault(numbered(numbers).as_bytes());
-        assert_eq!(said(vec![5; 259]), "F:4865: ..'g256'..259..3.. (refused 16 at 0)");
-        assert_eq!(said((0..257).collect()), "F:4865: ..'g256'..257..1.. (refused 16 at 0)");
+        assert_eq!(said(vec![5; 259]), "F:4865: ..'g256'..259..leave out 3.. (refused 16 at 0)");
+        assert_eq!(said((0..257).collect()), "F:4865: ..'g256'..257..leave out 1.. (refused 16 at 0)");
         // Numbers of an even number of lit dots differ in two dots at least; 4095 and 4094 in one.
         let even = (0..4090usize).filter(|number| number.count_ones() % 2 == 0);
         let numbers = [1000, 1000, 4094].into_iter().chain(even.take(62)).chain([4095]);
@@ -434,7 +435,7 @@ mod tests {
         let refused = drawn.packed().unwrap_err();
         assert_eq!(refused.one_of, [["'g2'", "line 39", "'g65'", "line 1236"].map(str::to_string).to_vec()]);
         assert_eq!(refused.line, Some(19 * 63 + 1));
-        assert_eq!(refused.names, ["'g63'", "65", "3"]);
+        assert_eq!(refused.names, ["'g63'", "65", "leave out 3"]);
     }
 
     #[test]
