@@ -105,6 +105,15 @@ fn with_lines(case: Case, lines: Vec<Line>) -> Case {
     lines.into_iter().fold(case, Case::says)
 }
 
+/// These lines are said, and perhaps some of the others.
+fn saying(case: Case, due: Vec<Line>, others: Vec<Line>) -> Case {
+    if others.is_empty() {
+        with_lines(case, due)
+    } else {
+        case.said(Said::Among { due, others })
+    }
+}
+
 /// `check`. The texts have the names that the command is given; one that is not there has no bytes.
 pub fn check(name: &str, whole: bool, texts: &[(&str, Option<&[u8]>)]) -> Case {
     let mut case = case(name, if whole { "check --whole" } else { "check" });
@@ -283,57 +292,52 @@ impl<'a> Paint<'a> {
         told(files.fold(case, |case, (file, bytes)| given(case, file, bytes)), self.to)
     }
 
-    /// The table, if one is given, or the line that says what is wrong with it. If it has a bad line and is another
-    /// font's, which is told is left open.
-    fn read_table(&self, font: Option<&[u16]>) -> Result<Option<Table>, Option<Line>> {
+    /// The table, if one is given, and the line about it if it is another font's. If a line is bad, what is said of that;
+    /// nothing is known if the table is another font's as well.
+    fn read_table(&self, font: Option<&[u16]>) -> Result<(Option<Table>, Option<Line>), Option<Line>> {
         let Some((file, bytes)) = self.table else {
-            return Ok(None);
+            return Ok((None, None));
         };
         let said = |fault: Fault| hinted(fault.said(&named(file)), bytes);
         let strange = font.is_some_and(|font| glyphs::is_of_another(bytes, font));
         let table = glyphs::table(bytes).map_err(|fault| (!strange).then(|| said(fault)))?;
-        match font.and_then(|font| table.strange_to(font)) {
-            Some(fault) => Err(Some(said(fault))),
-            None => Ok(Some(table)),
-        }
+        let strange = font.and_then(|font| table.strange_to(font)).map(said);
+        Ok((Some(table), strange))
     }
 
     pub fn case(&self, name: &str) -> Case {
         let case = self.bare(name);
         let font = text::read(&named(self.font.0), self.font.1);
-        let table = self.read_table(font.as_ref().ok().map(|good| &good.font[..]));
-        // If the table is bad the screen is not looked at.
-        let words = table.map(|table| {
-            let naming = Naming { table: table.as_ref(), drawn: self.drawn };
-            screen(self.screen.1, &naming).map_err(|fault| hinted(fault.said(&named(self.screen.0)), self.screen.1))
-        });
-        // Where a file is bad, whether the others are warned of is left open.
+        // Where a file is bad, whether the others are warned of is left open; that of the font is so everywhere.
         let mut others: Vec<Line> = font.as_ref().map_or(Vec::new(), |good| text::warnings(&named(self.font.0), good));
-        let (good, words) = match (font, words) {
-            (Ok(good), Ok(Ok(words))) => (good, words),
-            (Err(line), Ok(Ok(words))) => {
-                others.extend(self.warnings(&words));
-                return case.status(1).said(Said::Among { due: vec![line], others });
-            }
-            (Ok(_), Ok(Err(line)) | Err(Some(line))) => {
-                let case = case.status(1);
-                return if others.is_empty() {
-                    case.says(line)
-                } else {
-                    case.said(Said::Among { due: vec![line], others })
-                };
-            }
-            _ => return case.status(1).said(Said::IfNotDone),
+        let (table, strange) = match self.read_table(font.as_ref().ok().map(|good| &good.font[..])) {
+            Ok(read) => read,
+            // The screen is not looked at.
+            Err(Some(line)) if font.is_ok() => return saying(case.status(1), vec![line], others),
+            Err(_) => return case.status(1).said(Said::IfNotDone),
         };
-        // Whether the font's text is warned of is left open here too.
+        let naming = Naming { table: table.as_ref(), drawn: self.drawn };
+        let words = screen(self.screen.1, &naming);
+        let words = words.map_err(|fault| hinted(fault.said(&named(self.screen.0)), self.screen.1));
+        let due = words.as_ref().map_or(Vec::new(), |words| self.warnings(words));
+        let (good, words) = match (font, words, strange) {
+            (Ok(good), Ok(words), None) => (good, words),
+            (Err(line), Ok(_), _) | (Ok(_), Ok(_), Some(line)) => {
+                others.extend(due);
+                return saying(case.status(1), vec![line], others);
+            }
+            (Ok(_), Err(line), None) => return saying(case.status(1), vec![line], others),
+            (Ok(_), Err(line), Some(strange)) => {
+                return case.status(1).said(Said::Among { due: vec![strange, line], others })
+            }
+            (Err(_), Err(_), _) => return case.status(1).said(Said::IfNotDone),
+        };
         let &Paint { settings, frame, width, lines, .. } = self;
-        let due = self.warnings(&words);
         let rows = [self.drawn.map_or(&[][..], |drawn| &drawn.rows), &good.font].concat();
         let scene = Scene { words, glyphs: drawn(&rows), settings, frame, width, lines };
-        let case = if others.is_empty() { with_lines(case, due) } else { case.said(Said::Among { due, others }) };
         let picture = scene.picture();
         let text = self.text || self.to == To::Nowhere;
-        delivered(case, self.to, if text { picture.text() } else { picture.ppm() })
+        delivered(saying(case, due, others), self.to, if text { picture.text() } else { picture.ppm() })
     }
 
     /// What is said of a screen that is painted all the same: nothing is there, or it does not fit.

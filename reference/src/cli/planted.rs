@@ -255,12 +255,15 @@ fn what_a_table_says_is_looked_at() {
     finds("no-glyph", &missing.case("no glyph"), right, &wrong);
     let other = Paint { font: ("f", SAMPLE_TEXT), ..missing.clone() };
     let (one, two) = (sum(text.as_bytes()), sum(SAMPLE_TEXT));
-    let right = format!("echo 't:2: of another font: {one:08X}, and not {two:08X}' >&2; exit 1");
+    let strange = format!("echo 't:2: of another font: {one:08X}, and not {two:08X}' >&2");
+    let right = format!("{strange}; echo \"s:1: 'B' is no glyph of the table\" >&2; exit 1");
     let wrong = [
         (right.replace("t:2:", "t:1:"), "standard error is not what is due"),
         (right.replace(&format!("{two:08X}"), "00000000"), "standard error is not what is due"),
         (right.replace("another font", "another"), "standard error is not what is due"),
-        (format!("echo 's:1: B' >&2; {right}"), "standard error is not what is due"),
+        (format!("echo 's:2: B' >&2; {right}"), "standard error is not what is due"),
+        (format!("{strange}; exit 1"), "standard error is not what is due"),
+        (right.replace(&strange, ":"), "standard error is not what is due"),
     ];
     let wrong: Vec<(&str, &str)> = wrong.iter().map(|(script, words)| (&script[..], *words)).collect();
     finds("another-font", &other.case("another font"), &right, &wrong);

@@ -235,6 +235,12 @@ fn faults() -> Vec<Case> {
         ("a right sum, and a bad line", format!("font {sum:08X}\ncell 62 A\n")),
     ];
     cases.extend(sums.iter().map(|(name, table)| with_table(&format!("a fault, {name}"), table, "character A red\n")));
+    for (name, screen) in
+        [("a bad screen", "stop\n"), ("a name that is not there", "character B red\n"), ("no word", "")]
+    {
+        let table = "font 00000000\ncell 1 A\n";
+        cases.push(with_table(&format!("a fault, another sum, and {name}"), table, screen));
+    }
     let paint = Paint { table: Some(("-", b"cell 1 A\nx\n")), to: To::New, ..Paint::new(b"14\n", SAMPLE_TEXT) };
     cases.push(paint.case("table: a fault in standard input"));
     cases.push(Paint { font: ("f", b":00000001FE"), ..paint.clone() }.case("table: a fault, and a bad font"));
