@@ -2,7 +2,7 @@
 //!
 //! A cell is a heading `cell NN`, with a name after it or none, and 18 rows of 12 characters, `#` for a lit dot and `.`
 //! for an unlit one. Cells come in any order, each at most once, and one that is not drawn is empty. Empty lines and
-//! lines that begin with `;` are passed over.
+//! lines that begin with `;` are passed over. Drawings of glyphs differ in their headings only.
 
 use crate::lines::{decimal, lines, trimmed, words};
 use crate::model::hex::written_text;
@@ -34,16 +34,14 @@ pub struct Drawn {
     pub missing: Vec<usize>,
 }
 
-/// Whether a line is meant as a heading, right or wrong.
-fn is_heading(line: &[u8]) -> bool {
-    line == b"cell" || line.starts_with(b"cell ") || line.starts_with(b"cell\t")
+/// Whether a line is meant as a heading, right or wrong: its first word is the one that headings begin with.
+fn is_heading(line: &[u8], word: &str) -> bool {
+    let rest = line.strip_prefix(word.as_bytes());
+    rest.is_some_and(|rest| rest.is_empty() || rest.starts_with(b" ") || rest.starts_with(b"\t"))
 }
 
 /// The cell of a heading, or what is wrong with it.
 fn heading(line: &[u8], drawn: &[bool]) -> Result<usize, String> {
-    if !is_heading(line) {
-        return Err("the heading of a cell is due here; write \"cell NN\", NN from 0 to 61".to_string());
-    }
     let number = words(line).get(1).and_then(|word| decimal(word)).map(|number| number as usize);
     let cell = number.filter(|&number| number < CELLS).ok_or("a cell's number is 0 to 61, in decimal digits")?;
     if drawn[cell] {
@@ -74,12 +72,16 @@ fn row(line: &[u8]) -> Result<u16, String> {
     Ok(bits)
 }
 
-/// The font of a drawing.
-pub fn drawn(drawing: &[u8]) -> Result<Drawn, Complaint> {
-    let mut font = vec![0; FONT_ROWS];
-    let mut drawn = [false; CELLS];
-    // Of the cell whose heading was read last.
-    let (mut cell, mut rows_due) = (0, 0);
+/// The rows of a drawing, 18 for each heading. The headings are handed on with their lines, counted from 1; `heading`
+/// says what is wrong with one.
+pub fn rows(
+    drawing: &[u8],
+    word: &str,
+    heading: &mut dyn FnMut(usize, &[u8]) -> Result<(), String>,
+) -> Result<Vec<u16>, Complaint> {
+    let mut rows = Vec::new();
+    // Of the heading that was read last.
+    let mut rows_due = 0;
     let lines = lines(drawing);
     for (index, line) in lines.iter().enumerate() {
         let complain = |what: String| Complaint { line: Some(index + 1), what };
@@ -87,24 +89,44 @@ pub fn drawn(drawing: &[u8]) -> Result<Drawn, Complaint> {
         if line.is_empty() || line.starts_with(b";") {
             continue;
         }
-        if rows_due == 0 {
-            cell = heading(line, &drawn).map_err(complain)?;
-            drawn[cell] = true;
-            rows_due = ROWS;
-        } else if is_heading(line) {
-            return Err(complain(format!("{rows_due} rows are missing before this heading; every cell has {ROWS}")));
-        } else {
-            font[ROWS * cell + ROWS - rows_due] = row(line).map_err(complain)?;
-            rows_due -= 1;
+        match (is_heading(line, word), rows_due) {
+            (true, 0) => {
+                heading(index + 1, line).map_err(complain)?;
+                rows_due = ROWS;
+            }
+            (true, _) => {
+                return Err(complain(format!("{rows_due} rows are missing before this heading; there must be {ROWS}")))
+            }
+            (false, 0) => return Err(complain(format!("a heading is due here; it begins with \"{word} \""))),
+            (false, _) => {
+                rows.push(row(line).map_err(complain)?);
+                rows_due -= 1;
+            }
         }
     }
     if rows_due > 0 {
-        let what = format!("the drawing stops before the last {rows_due} rows of cell {cell}; draw all {ROWS}");
+        let what = format!("the drawing stops before the last {rows_due} rows; draw all {ROWS}");
         return Err(Complaint { line: Some(lines.len()), what });
     }
-    if drawn == [false; CELLS] {
-        let what = "no cell is drawn; draw at least one, with the heading \"cell NN\"".to_string();
-        return Err(Complaint { line: None, what });
+    if rows.is_empty() {
+        return Err(Complaint { line: None, what: format!("no {word} is drawn; draw at least one") });
+    }
+    Ok(rows)
+}
+
+/// The font of a drawing.
+pub fn drawn(drawing: &[u8]) -> Result<Drawn, Complaint> {
+    let mut drawn = [false; CELLS];
+    let mut cells = Vec::new();
+    let rows = rows(drawing, "cell", &mut |_, line| {
+        let cell = heading(line, &drawn)?;
+        drawn[cell] = true;
+        cells.push(cell);
+        Ok(())
+    })?;
+    let mut font = vec![0; FONT_ROWS];
+    for (cell, rows) in cells.iter().zip(rows.chunks(ROWS)) {
+        font[ROWS * cell..ROWS * cell + ROWS].copy_from_slice(rows);
     }
     Ok(Drawn { font, missing: (0..CELLS).filter(|&cell| !drawn[cell]).collect() })
 }
@@ -176,13 +198,13 @@ mod tests {
     fn complaints_name_the_line_and_the_remedy() {
         assert!(complaint("").starts_with("no cell is drawn"));
         assert!(complaint("\n; words\n").starts_with("no cell is drawn"));
-        assert!(complaint("\n............").starts_with("line 2: the heading of a cell is due"));
-        assert!(complaint("cells 00").starts_with("line 1: the heading of a cell is due"));
+        assert!(complaint("\n............").starts_with("line 2: a heading is due"));
+        assert!(complaint("cells 00").starts_with("line 1: a heading is due"));
         for wrong in ["cell", "cell 62", "cell x", "cell 0x1", "cell -1", "cell +1", "cell 4294967296"] {
             assert!(complaint(wrong).starts_with("line 1: a cell's number is 0 to 61"), "{wrong}");
         }
         assert!(complaint(&(cell("5") + "\n" + &cell("05 B"))).starts_with("line 21: cell 5 is drawn already"));
-        assert!(complaint(&(cell("5") + "............")).starts_with("line 20: the heading of a cell is due"));
+        assert!(complaint(&(cell("5") + "............")).starts_with("line 20: a heading is due"));
         assert!(complaint("cell 00 A\n...").starts_with("line 2: this row has 3 characters"));
         assert!(complaint("cell 00\n.............").starts_with("line 2: this row has 13 characters"));
         assert!(complaint("cell 00\n....x.......").starts_with("line 2: 'x' in column 5 is no dot"));

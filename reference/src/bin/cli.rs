@@ -5,13 +5,13 @@
 //! `DIRGEFLINT_RUN` the command that runs it where it cannot run by itself.
 
 use reference::cli::program::Program;
-use reference::cli::{self, damage, randomly, table, Difference, Group, Plan};
+use reference::cli::{self, damage, random_glyphs, randomly, table, Difference, Group, Plan};
 use std::ffi::OsString;
 use std::path::Path;
 use std::process::ExitCode;
 use std::time::{Duration, Instant};
 
-const NAMES: &[&str] = &["table", "fonts", "pictures", "waves", "damage"];
+const NAMES: &[&str] = &["table", "fonts", "pictures", "glyphs", "waves", "damage"];
 const OPTIONS: &str = "--seed N, --from N, --count N, --damage N, --program PATH";
 const LIMIT: Duration = Duration::from_secs(10);
 
@@ -27,7 +27,7 @@ struct Request {
 fn request(arguments: impl Iterator<Item = String>) -> Result<Request, String> {
     let program = std::env::var_os("DIRGEFLINT_PROGRAM");
     let seed = reference::compare::DEFAULT_SEED;
-    let mut request = Request { groups: Vec::new(), seed, from: 0, count: None, damage: 2_000, program };
+    let mut request = Request { groups: Vec::new(), seed, from: 0, count: None, damage: 2_800, program };
     let mut arguments = arguments;
     while let Some(argument) = arguments.next() {
         let mut value = || arguments.next().ok_or(format!("{argument} wants a value after it"));
@@ -89,6 +89,7 @@ fn compare_all(request: &Request, root: &Path) -> Result<bool, String> {
         Group { name: "table", what: "cases", cases: cases.len() as u64, all: true, make: &by_hand },
         Group { name: "fonts", what: "fonts", cases: 200, all: false, make: &randomly::fonts },
         Group { name: "pictures", what: "screens", cases: 300, all: false, make: &randomly::pictures },
+        Group { name: "glyphs", what: "sets of glyphs", cases: 300, all: false, make: &random_glyphs::glyphs },
         Group { name: "waves", what: "files of events", cases: 300, all: false, make: &randomly::waves },
         Group { name: "damage", what: "damaged inputs", cases: request.damage, all: false, make: &damage::cases },
     ];

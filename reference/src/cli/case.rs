@@ -1,6 +1,7 @@
 //! One run of the program, and what it must come to.
 
 use super::folder::{Folder, Thing, Things};
+use super::glyphs::hidden;
 use super::program::{End, Ended, Order, Program};
 use super::report::{difference, indented, shown, typed};
 use std::ffi::{OsStr, OsString};
@@ -10,6 +11,8 @@ use std::ffi::{OsStr, OsString};
 pub struct Line {
     pub start: String,
     pub names: Vec<String>,
+    /// Sets of names of which one will do; none if there is no set.
+    one_of: Vec<Vec<String>>,
     pub end: String,
     /// Whether anything may stand between start and end.
     free: bool,
@@ -17,11 +20,11 @@ pub struct Line {
 
 impl Line {
     pub fn new(start: impl Into<String>, end: impl Into<String>) -> Self {
-        Line { start: start.into(), names: Vec::new(), end: end.into(), free: true }
+        Line { start: start.into(), names: Vec::new(), one_of: Vec::new(), end: end.into(), free: true }
     }
 
     pub fn exactly(text: impl Into<String>) -> Self {
-        Line { start: text.into(), names: Vec::new(), end: String::new(), free: false }
+        Line { start: text.into(), names: Vec::new(), one_of: Vec::new(), end: String::new(), free: false }
     }
 
     pub fn naming(mut self, what: impl Into<String>) -> Self {
@@ -29,9 +32,17 @@ impl Line {
         self
     }
 
+    pub fn naming_one_of(mut self, sets: Vec<Vec<String>>) -> Self {
+        self.one_of = sets;
+        self
+    }
+
     fn fits(&self, line: &str) -> bool {
         let rest = line.strip_prefix(self.start.as_str()).and_then(|rest| rest.strip_suffix(self.end.as_str()));
-        rest.is_some_and(|rest| self.free || rest.is_empty()) && self.names.iter().all(|name| has(line, name))
+        let all = |names: &Vec<String>| names.iter().all(|name| has(line, name));
+        rest.is_some_and(|rest| self.free || rest.is_empty())
+            && all(&self.names)
+            && (self.one_of.is_empty() || self.one_of.iter().any(all))
     }
 }
 
@@ -51,6 +62,9 @@ impl std::fmt::Display for Line {
         write!(out, "{}", self.start)?;
         for name in &self.names {
             write!(out, "..{name}")?;
+        }
+        if let Some(set) = self.one_of.first() {
+            write!(out, "..{}{}", set.join(".."), if self.one_of.len() > 1 { " or others" } else { "" })?;
         }
         write!(out, "{}{}", if self.free { ".." } else { "" }, self.end)
     }
@@ -288,17 +302,24 @@ impl Case {
 
     /// Whatever the input has, a message is for people: printable, in whole lines, not too long.
     fn unreadable(&self, err: &[u8]) -> Option<String> {
-        // Bytes above 127 may be those of a file's name, which is shown in the user's own letters.
-        let plain = self.words.iter().flatten().all(u8::is_ascii);
         if !err.is_empty() && !err.ends_with(b"\n") {
             return Some("does not end with a line's end".to_string());
         }
-        let odd = |byte: u8| byte < b' ' && byte != b'\n' || byte == 127 || plain && byte > 127;
-        if err.iter().any(|&byte| odd(byte)) {
+        let control = err.iter().any(|&byte| byte < b' ' && byte != b'\n' || byte == 127);
+        // Bytes above 127 may be those of a file's name, which is shown in the user's own letters.
+        let plain = self.words.iter().flatten().all(u8::is_ascii);
+        if control || plain && !self.in_letters(err) {
             return Some("has a byte that is not printable".to_string());
         }
         let longest = err.split(|&byte| byte == b'\n').map(<[u8]>::len).max().unwrap_or(0);
         (longest > LONGEST_MESSAGE).then(|| format!("has a line of {longest} bytes"))
+    }
+
+    /// Whether what is said is in ASCII, or of a command that shows glyphs' names in letters that these may have.
+    fn in_letters(&self, err: &[u8]) -> bool {
+        let names = self.words.first().is_some_and(|word| word == b"pack" || word == b"paint");
+        let seen = |letter: char| letter.is_ascii() || names && !hidden(letter);
+        std::str::from_utf8(err).is_ok_and(|text| text.chars().all(seen))
     }
 
     fn judge_things(&self, ended: &Ended, before: Things, after: &Things) -> Option<String> {

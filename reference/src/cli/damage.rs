@@ -5,9 +5,10 @@
 //! output file that is complete or as it was.
 
 use super::case::{case, Case, Said};
-use super::expect::{check, font, play, show, whole_font, Paint, To, OUTPUT, PAINT_OPTIONS};
-use super::randomly::{events_text, font_text, number, screen_text};
-use super::table::{SAMPLE_DRAWING, SAMPLE_TEXT};
+use super::expect::{check, font, pack, play, show, whole_font, Paint, To, OUTPUT, PAINT_OPTIONS, TABLE};
+use super::random_glyphs::{drawings_text, packed, table_by_hand};
+use super::randomly::{events_text, font_text, number, screen_naming, screen_text};
+use super::table::{SAMPLE_DRAWING, SAMPLE_GLYPHS, SAMPLE_TEXT};
 use super::text::BYTE_ORDER_MARK;
 use crate::cases::all as texts_by_hand;
 use crate::compare::hex::texts::random_text;
@@ -28,6 +29,11 @@ const WORDS: &[&str] = &[
     "play",
     "reset",
     "cell",
+    "cell 1 A",
+    "glyph",
+    "glyph A",
+    "font",
+    "font 00000000",
     ";",
     "#",
     "-1",
@@ -52,6 +58,8 @@ const WORDS: &[&str] = &[
     ":00000001FF",
     "%s%n",
     "\u{e9}",
+    "\u{3a9}",
+    "\u{200b}",
 ];
 
 /// Where the lines start.
@@ -174,6 +182,62 @@ fn a_drawing(random: &mut Random) -> Vec<u8> {
     }
 }
 
+/// The sample's glyphs as a careless person leaves them: some are left out, moved or drawn twice, dots are wrong.
+fn careless_glyphs(random: &mut Random) -> Vec<u8> {
+    let drawings = String::from_utf8_lossy(SAMPLE_GLYPHS);
+    let one_in = random.pick(&[2, 20, 60]);
+    let mut glyphs: Vec<String> = drawings.split("\nglyph ").map(|glyph| format!("\nglyph {glyph}")).skip(1).collect();
+    glyphs.retain(|_| !random.one_in(one_in));
+    for glyph in &mut glyphs {
+        if random.one_in(one_in) {
+            let (dot, other) = random.pick(&[("#.", ".."), (".#", "##"), (".", "#"), ("#", ".")]);
+            *glyph = glyph.replacen(dot, other, 1);
+        }
+    }
+    if random.one_in(2) && !glyphs.is_empty() {
+        let (from, to) = (random.below(glyphs.len()), random.below(glyphs.len()));
+        let glyph = if random.one_in(2) { glyphs.remove(from) } else { glyphs[from].clone() };
+        glyphs.insert(to.min(glyphs.len()), glyph);
+    }
+    glyphs.concat().into_bytes()
+}
+
+fn drawn_glyphs(random: &mut Random) -> Vec<u8> {
+    match random.below(12) {
+        0 => noise(random),
+        1 => damaged(SAMPLE_DRAWING, random),
+        10 | 11 => careless_glyphs(random),
+        2..=4 => {
+            let text = drawings_text(random);
+            damaged(text, random)
+        }
+        5 => {
+            // A few glyphs only.
+            let end = random.between(600, 3000);
+            damaged(&SAMPLE_GLYPHS[..end], random)
+        }
+        _ => damaged(SAMPLE_GLYPHS, random),
+    }
+}
+
+/// A screen that names glyphs, and the table, of which one is damaged or neither, or the font.
+fn named_screen(name: &str, to: To, random: &mut Random) -> Case {
+    let (drawn, packed) = packed(random);
+    let table = if random.one_in(2) { packed.table.clone() } else { table_by_hand(&drawn, &packed, random) };
+    let (mut table, mut font) = (table.into_bytes(), packed.text.into_bytes());
+    let mut screen = screen_naming(&drawn.names, random).into_bytes();
+    match random.below(10) {
+        0 => table = noise(random),
+        1..=5 => table = damaged(table, random),
+        6 | 7 => screen = damaged(screen, random),
+        8 => font = font_text(random),
+        _ => (table, screen) = (damaged(table, random), damaged(screen, random)),
+    }
+    let (file, text) = (named("t.txt", random), random.one_in(2));
+    let paint = Paint { to, text, table: Some((file, &table)), ..Paint::new(&screen, &font) };
+    paint.case(name)
+}
+
 fn a_screen(random: &mut Random) -> Vec<u8> {
     if random.one_in(12) {
         return noise(random);
@@ -192,9 +256,10 @@ fn some_events(random: &mut Random) -> Vec<u8> {
 
 /// A word of a command line, right or not.
 fn argument(command: &str, random: &mut Random) -> Vec<u8> {
-    // Where the output goes is said by `words`.
+    // Where the outputs go is said by `words`.
+    let output = |option: &str| option == "-o" || option == "--table" && command == "pack";
     let others = ["--whole", "--nothing", "-x"];
-    let options: Vec<&str> = PAINT_OPTIONS.iter().copied().filter(|&option| option != "-o").chain(others).collect();
+    let options: Vec<&str> = PAINT_OPTIONS.iter().copied().filter(|&option| !output(option)).chain(others).collect();
     let value = |random: &mut Random| match random.below(4) {
         0 => number(random.double_word(), random),
         1 => random.pick(WORDS).to_string(),
@@ -203,7 +268,7 @@ fn argument(command: &str, random: &mut Random) -> Vec<u8> {
     match random.below(8) {
         0..=2 => random.pick(&options).into(),
         3 => format!("{}={}", random.pick(&options), value(random)).into(),
-        4 => random.pick(&["f.hex", "d.txt", "s", "e", "-", "", "none", "."]).into(),
+        4 => random.pick(&["f.hex", "d.txt", "g.txt", "t.txt", "s", "e", "-", "", "none", "."]).into(),
         5 if command != "help" => (0..random.between(1, 40)).map(|_| random.byte() | 1).collect(),
         _ => value(random).into(),
     }
@@ -215,6 +280,10 @@ fn is_text(bytes: &[u8]) -> bool {
 
 fn is_drawing(bytes: &[u8]) -> bool {
     (bytes.len() + 1) % (8 + 18 * 13 + 1) == 0
+}
+
+fn is_table(bytes: &[u8]) -> bool {
+    bytes.starts_with(b"; ") && bytes.ends_with(b"\n") && super::glyphs::table(bytes).is_ok()
 }
 
 fn is_picture(bytes: &[u8]) -> bool {
@@ -239,6 +308,7 @@ type Test = fn(&[u8]) -> bool;
 const COMMANDS: &[(&str, &str, Test)] = &[
     ("check", "f.hex", |_| false),
     ("font", "d.txt", is_text),
+    ("pack", "g.txt --table table.out", is_text),
     ("show", "f.hex", is_drawing),
     ("paint", "s --font f.hex", is_picture),
     ("play", "e", is_wave),
@@ -257,23 +327,28 @@ fn words(name: &str, random: &mut Random) -> Case {
             made.words.remove(place);
         }
     }
-    // Only the file that is named once, and at its place, is watched for what is written.
-    let pairs: Vec<&[Vec<u8>]> = made.words.windows(2).filter(|pair| pair[0] == b"-o").collect();
-    let named = pairs.len() == 1 && pairs[0][1] == OUTPUT.as_bytes() && made.words[0] == command.as_bytes();
+    // Only files that are named once, and at their places, are watched for what is written.
+    let at_its_place = |option: &str, file: &str| {
+        let pairs: Vec<&[Vec<u8>]> = made.words.windows(2).filter(|pair| pair[0] == option.as_bytes()).collect();
+        pairs.len() == 1 && pairs[0][1] == file.as_bytes() && made.words[0] == command.as_bytes()
+    };
+    let named = at_its_place("-o", OUTPUT) && (command != "pack" || at_its_place("--table", TABLE));
     let (text, screen) = (if random.one_in(4) { a_text(random) } else { SAMPLE_TEXT.to_vec() }, screen_text(random));
     let made = made.file("f.hex", text).file("d.txt", SAMPLE_DRAWING).file("s", screen).file("e", events_text(random));
+    let made = made.file("g.txt", SAMPLE_GLYPHS).file("t.txt", "cell 1 A\n").file(TABLE, "as it was\n");
     let made = made.file(OUTPUT, "as it was\n").input(SAMPLE_TEXT).any_status().said(Said::IfNotDone);
     let made = if command == "check" { made.any_out() } else { made.out_if_done() };
-    if named {
-        made.writes_if_done(OUTPUT, complete)
-    } else {
-        Case { words: without_output(made.words), ..made }
+    match (named, command) {
+        (true, "pack") => made.writes_if_done(OUTPUT, complete).writes_if_done(TABLE, is_table),
+        (true, _) => made.writes_if_done(OUTPUT, complete),
+        (false, _) => Case { words: without_output(made.words), ..made },
     }
 }
 
 /// Words that name no output, where it is not plain which file that would be.
 fn without_output(words: Vec<Vec<u8>>) -> Vec<Vec<u8>> {
-    words.into_iter().filter(|word| word != b"-o").collect()
+    let table = words.first().is_some_and(|word| word == b"pack");
+    words.into_iter().filter(|word| word != b"-o" && !(table && word == b"--table")).collect()
 }
 
 /// The name of a file, in a few of them with what a terminal would not show.
@@ -290,7 +365,7 @@ fn named(usual: &'static str, random: &mut Random) -> &'static str {
 pub fn cases(index: u64, random: &mut Random) -> Case {
     let name = format!("damaged input {index}");
     let to = random.pick(&[To::Old, To::Old, To::Old, To::Nowhere, To::Dash]);
-    match index % 10 {
+    match index % 14 {
         0 => {
             let (one, two) = (a_text(random), a_text(random));
             let file = if random.one_in(4) { "-" } else { named("a.hex", random) };
@@ -316,6 +391,11 @@ pub fn cases(index: u64, random: &mut Random) -> Case {
             Paint { to, ..Paint::new(screen.as_bytes(), &font) }.case(&name)
         }
         8 => play(&name, named("e.txt", random), &some_events(random), to),
+        9 | 10 => {
+            let table_to = if to == To::Old { random.pick(&[To::Old, To::Nowhere]) } else { To::Nowhere };
+            pack(&name, named("g.txt", random), &drawn_glyphs(random), to, table_to)
+        }
+        11 | 12 => named_screen(&name, to, random),
         _ => words(&name, random),
     }
 }
@@ -327,12 +407,12 @@ mod tests {
     #[test]
     fn damage_is_refused_taken_and_of_every_command() {
         let mut seen = std::collections::BTreeMap::new();
-        for index in 0..400 {
+        for index in 0..560 {
             let case = cases(index, &mut Random::of_case(1, index));
             let command = case.words.first().map(|word| String::from_utf8_lossy(word).into_owned());
             *seen.entry((command.unwrap_or_default(), case.status)).or_insert(0) += 1;
         }
-        for command in ["check", "font", "show", "paint", "play"] {
+        for command in ["check", "font", "pack", "show", "paint", "play"] {
             for status in [Some(0), Some(1)] {
                 let number = seen.get(&(command.to_string(), status)).copied().unwrap_or(0);
                 assert!(number >= 3, "{command} {status:?}: {number}");

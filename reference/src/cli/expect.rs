@@ -2,12 +2,14 @@
 
 use super::case::{case, Case, Line, Said};
 use super::folder::Thing;
+use super::glyphs::{self, Drawings, Fault, Naming, Packed, Table};
 use super::screen::{edges, is_empty, screen, Scene, DEFAULTS};
 use super::text::{self, drawing, whole_drawing};
 use super::wave::{events, Wave};
 use crate::draw;
-use crate::model::display::WIDEST;
+use crate::model::display::{Kind, WIDEST};
 use crate::model::hex::written_text;
+use crate::model::pack::drawn;
 use crate::model::{image, pulse};
 use crate::parts::Settings;
 
@@ -25,11 +27,14 @@ pub enum To {
 }
 
 pub const OUTPUT: &str = "out";
+/// The file that `pack` is told to write its table to.
+pub const TABLE: &str = "table.out";
 const OLD: &[u8] = b"what was there before\n";
 
 /// The options of `paint`.
 pub const PAINT_OPTIONS: &[&str] = &[
     "--font",
+    "--table",
     "--mode",
     "--colour",
     "--h",
@@ -65,13 +70,18 @@ fn given(case: Case, file: &str, bytes: &[u8]) -> Case {
     }
 }
 
-fn told(case: Case, to: To) -> Case {
+/// An option that names an output.
+fn told_by(case: Case, option: &str, file: &str, to: To) -> Case {
     match to {
         To::Nowhere => case,
-        To::Dash => case.word("-o").word("-"),
-        To::New => case.word("-o").word(OUTPUT),
-        To::Old => case.word("-o").word(OUTPUT).thing(OUTPUT, Thing::File { bytes: OLD.to_vec(), mode: Some(0o640) }),
+        To::Dash => case.word(option).word("-"),
+        To::New => case.word(option).word(file),
+        To::Old => case.word(option).word(file).thing(file, Thing::File { bytes: OLD.to_vec(), mode: Some(0o640) }),
     }
+}
+
+fn told(case: Case, to: To) -> Case {
+    told_by(case, "-o", OUTPUT, to)
 }
 
 /// The output of work that is whole.
@@ -82,7 +92,7 @@ fn delivered(case: Case, to: To, bytes: impl Into<Vec<u8>>) -> Case {
     }
 }
 
-/// A message about a drawing, a screen or events. A byte order mark spoils the first line, so it is the one told of.
+/// A message about a drawing, a table, a screen or events. A byte order mark spoils the first line, so it is the one told of.
 fn hinted(line: Line, bytes: &[u8]) -> Line {
     if bytes.starts_with(text::BYTE_ORDER_MARK) {
         line.naming(text::MARK_NAMED)
@@ -93,6 +103,15 @@ fn hinted(line: Line, bytes: &[u8]) -> Line {
 
 fn with_lines(case: Case, lines: Vec<Line>) -> Case {
     lines.into_iter().fold(case, Case::says)
+}
+
+/// These lines are said, and perhaps some of the others.
+fn saying(case: Case, due: Vec<Line>, others: Vec<Line>) -> Case {
+    if others.is_empty() {
+        with_lines(case, due)
+    } else {
+        case.said(Said::Among { due, others })
+    }
 }
 
 /// `check`. The texts have the names that the command is given; one that is not there has no bytes.
@@ -190,6 +209,30 @@ fn font_of(case: Case, whole: bool, file: &str, bytes: &[u8], to: To) -> Case {
     }
 }
 
+/// `pack`: where the text goes, and where the table.
+pub fn pack(name: &str, file: &str, bytes: &[u8], to: To, table_to: To) -> Case {
+    let case = given(case(name, "pack").word(file), file, bytes);
+    let case = told_by(told(case, to), "--table", TABLE, table_to);
+    let printed = matches!(to, To::Nowhere | To::Dash);
+    if printed && table_to == To::Dash {
+        return misused(case, "pack");
+    }
+    let drawings = glyphs::drawings(bytes);
+    let open = drawings.as_ref().is_ok_and(|drawings| drawings.open);
+    match drawings.and_then(|drawings| drawings.packed()) {
+        Ok(Packed { text, table }) => {
+            let case = delivered(case, to, text);
+            match table_to {
+                To::Nowhere if printed => case.said(Said::Exactly(table.into_bytes())),
+                To::Nowhere | To::Dash => case.out(table),
+                To::New | To::Old => case.writes(TABLE, table),
+            }
+        }
+        Err(_) if open => case.status(1).said(Said::IfNotDone),
+        Err(fault) => case.status(1).says(hinted(fault.said(&named(file)), bytes)),
+    }
+}
+
 /// `show`, of all cells if none is named.
 pub fn show(name: &str, file: &str, bytes: &[u8], cells: &[usize], to: To) -> Case {
     let case = told(given(case(name, "show").word(file), file, bytes), to);
@@ -209,6 +252,9 @@ pub fn show(name: &str, file: &str, bytes: &[u8], cells: &[usize], to: To) -> Ca
 pub struct Paint<'a> {
     pub screen: (&'a str, &'a [u8]),
     pub font: (&'a str, &'a [u8]),
+    pub table: Option<(&'a str, &'a [u8])>,
+    /// The glyphs that the table names: the picture is then made of them, and not of the font.
+    pub drawn: Option<&'a Drawings>,
     pub settings: Settings,
     pub frame: u32,
     pub width: Option<u32>,
@@ -224,6 +270,8 @@ impl<'a> Paint<'a> {
         Paint {
             screen: ("screen", screen),
             font: ("font.hex", font),
+            table: None,
+            drawn: None,
             settings: DEFAULTS,
             frame: 0,
             width: None,
@@ -235,44 +283,65 @@ impl<'a> Paint<'a> {
     }
 
     fn bare(&self, name: &str) -> Case {
-        let (screen, font) = (self.screen, self.font);
         let words = case(name, &self.words).words;
-        let case = case(name, "paint").word(screen.0).word("--font").word(font.0);
+        let case = case(name, "paint").word(self.screen.0).word("--font").word(self.font.0);
+        let case = self.table.iter().fold(case, |case, table| case.word("--table").word(table.0));
         let case = words.into_iter().fold(case, Case::word);
         let case = if self.text { case.word("--text") } else { case };
-        told(given(given(case, screen.0, screen.1), font.0, font.1), self.to)
+        let files = [self.screen, self.font].into_iter().chain(self.table);
+        told(files.fold(case, |case, (file, bytes)| given(case, file, bytes)), self.to)
+    }
+
+    /// The table, if one is given, and the line about it if it is another font's. If a line is bad, what is said of that;
+    /// nothing is known if the table is another font's as well.
+    fn read_table(&self, font: Option<&[u16]>) -> Result<(Option<Table>, Option<Line>), Option<Line>> {
+        let Some((file, bytes)) = self.table else {
+            return Ok((None, None));
+        };
+        let said = |fault: Fault| hinted(fault.said(&named(file)), bytes);
+        let strange = font.is_some_and(|font| glyphs::is_of_another(bytes, font));
+        let table = glyphs::table(bytes).map_err(|fault| (!strange).then(|| said(fault)))?;
+        let strange = font.and_then(|font| table.strange_to(font)).map(said);
+        Ok((Some(table), strange))
     }
 
     pub fn case(&self, name: &str) -> Case {
         let case = self.bare(name);
-        let (good, words) = match (text::read(&named(self.font.0), self.font.1), screen(self.screen.1)) {
-            (Ok(good), Ok(words)) => (good, words),
-            (Err(line), Ok(words)) => {
-                // Whether the screen is warned of as well is left open.
-                let others = self.warnings(&words);
-                return case.status(1).said(Said::Among { due: vec![line], others });
-            }
-            (Ok(_), Err(line)) => {
-                // Whether the font's text is warned of before that is left open.
-                let line = hinted(Line::new(format!("{}:{line}: ", named(self.screen.0)), ""), self.screen.1);
-                let case = case.status(1);
-                return if good_and_whole(self.font.1) { case.says(line) } else { case.said(Said::IfNotDone) };
-            }
-            (Err(_), Err(_)) => return case.status(1).said(Said::IfNotDone),
+        let font = text::read(&named(self.font.0), self.font.1);
+        // Where a file is bad, whether the others are warned of is left open; that of the font is so everywhere.
+        let mut others: Vec<Line> = font.as_ref().map_or(Vec::new(), |good| text::warnings(&named(self.font.0), good));
+        let (table, strange) = match self.read_table(font.as_ref().ok().map(|good| &good.font[..])) {
+            Ok(read) => read,
+            // The screen is not looked at.
+            Err(Some(line)) if font.is_ok() => return saying(case.status(1), vec![line], others),
+            Err(_) => return case.status(1).said(Said::IfNotDone),
         };
-        // Whether the font's text is warned of is left open here too.
-        let others = text::warnings(&named(self.font.0), &good);
+        let naming = Naming { table: table.as_ref(), drawn: self.drawn };
+        let words = screen(self.screen.1, &naming);
+        let words = words.map_err(|fault| hinted(fault.said(&named(self.screen.0)), self.screen.1));
+        let due = words.as_ref().map_or(Vec::new(), |words| self.warnings(words));
+        let (good, words) = match (font, words, strange) {
+            (Ok(good), Ok(words), None) => (good, words),
+            (Err(line), Ok(_), _) | (Ok(_), Ok(_), Some(line)) => {
+                others.extend(due);
+                return saying(case.status(1), vec![line], others);
+            }
+            (Ok(_), Err(line), None) => return saying(case.status(1), vec![line], others),
+            (Ok(_), Err(line), Some(strange)) => {
+                return case.status(1).said(Said::Among { due: vec![strange, line], others })
+            }
+            (Err(_), Err(_), _) => return case.status(1).said(Said::IfNotDone),
+        };
         let &Paint { settings, frame, width, lines, .. } = self;
-        let due = self.warnings(&words);
-        let scene = Scene { words, font: good.font, settings, frame, width, lines };
-        let case = if others.is_empty() { with_lines(case, due) } else { case.said(Said::Among { due, others }) };
-        let picture = scene.picture().expect("settings that are refused are cases by hand");
+        let rows = [self.drawn.map_or(&[][..], |drawn| &drawn.rows), &good.font].concat();
+        let scene = Scene { words, glyphs: drawn(&rows), settings, frame, width, lines };
+        let picture = scene.picture();
         let text = self.text || self.to == To::Nowhere;
-        delivered(case, self.to, if text { picture.text() } else { picture.ppm() })
+        delivered(saying(case, due, others), self.to, if text { picture.text() } else { picture.ppm() })
     }
 
     /// What is said of a screen that is painted all the same: nothing is there, or it does not fit.
-    fn warnings(&self, words: &[u16]) -> Vec<Line> {
+    fn warnings(&self, words: &[Kind]) -> Vec<Line> {
         let name = named(self.screen.0);
         if is_empty(self.screen.1) {
             return vec![Line::exactly(format!("{name}: warning: no word is given: the screen is empty"))];
@@ -297,10 +366,6 @@ impl<'a> Paint<'a> {
     pub fn misused(&self, name: &str) -> Case {
         misused(self.bare(name), "paint")
     }
-}
-
-fn good_and_whole(text: &[u8]) -> bool {
-    text::read("", text).is_ok_and(|good| good.not_given.is_empty())
 }
 
 /// `play`.

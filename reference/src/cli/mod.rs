@@ -8,9 +8,11 @@ pub mod case;
 pub mod damage;
 pub mod expect;
 pub mod folder;
+pub mod glyphs;
 #[cfg(test)]
 mod planted;
 pub mod program;
+pub mod random_glyphs;
 pub mod randomly;
 mod report;
 pub mod screen;
@@ -26,6 +28,13 @@ use std::path::{Path, PathBuf};
 use std::sync::atomic::{AtomicU64, Ordering};
 use std::sync::Mutex;
 use std::time::{Duration, Instant};
+
+/// The version that the header names.
+fn version() -> &'static str {
+    let header = include_str!("../../../include/dirgeflint.h");
+    let after = header.split("#define DIRGEFLINT_VERSION \"").nth(1).expect("the header names its version");
+    after.split('"').next().unwrap_or_default()
+}
 
 /// Cases of one sort.
 pub struct Group<'a> {

@@ -2,8 +2,9 @@
 
 use super::case::Line;
 use super::case::{case, Case, Said};
-use super::expect::{check, font, play, pulse, whole_font, Paint, To};
+use super::expect::{check, font, pack, play, pulse, whole_font, Paint, To, OUTPUT, TABLE};
 use super::folder::{Folder, Thing};
+use super::glyphs::{drawings, sum, Packed};
 use super::program::Program;
 use super::table::{SAMPLE_DRAWING, SAMPLE_TEXT};
 use super::{run, Group, Plan};
@@ -109,6 +110,187 @@ fn an_output_that_is_written_is_looked_at() {
     );
     let new = font("the sample", "d.txt", SAMPLE_DRAWING, To::New);
     finds("new", &new, right, &[("(umask 077; cat SAMPLE >out)", "out has 600 permissions, and the usual are due")]);
+}
+
+/// Three glyphs, of which two are alike.
+fn three_glyphs() -> (String, Packed) {
+    let glyph = |name: &str, row: &str| format!("glyph {name}\n{}", format!("{row}\n").repeat(18));
+    let text = glyph("A", "#...........") + &glyph("\u{3A9}", "############") + &glyph("\u{391}", "#...........");
+    let packed = drawings(text.as_bytes()).unwrap().packed().unwrap();
+    (text, packed)
+}
+
+/// A stand-in that writes a text and a table to the files of `pack`, or prints them.
+fn writes(text: &str, table: &str) -> String {
+    format!("printf '{}' >{OUTPUT}; printf '{}' >{TABLE}", text.replace('\n', "\\n"), table.replace('\n', "\\n"))
+}
+
+#[test]
+fn what_is_packed_is_looked_at() {
+    let (drawn, Packed { text, table }) = three_glyphs();
+    let right = writes(&text, &table);
+    let sum_of = |of: &[u8]| format!("font {:08X}\n", sum(of));
+    let own = sum_of(text.as_bytes());
+    assert!(table.contains(&own));
+    // Glyphs that share told apart: the second of them in a cell of its own, and its rows there.
+    let apart = drawings(drawn.replace("\u{391}\n#..", "\u{391}\n.#.").as_bytes()).unwrap().packed().unwrap();
+    let with_sum_of = |table: &str, text: &str| table.replace(&own, &sum_of(text.as_bytes()));
+    let off_by_one = table.replace("cell 01", "cell 02");
+    let wrong = [
+        (writes(&text, &off_by_one), "table.out differs at byte"),
+        (writes(&text, &table.replace("cell 00", "cell -1").replace("cell 01", "cell 00")), "table.out differs"),
+        (writes(&apart.text, &apart.table), "out differs at byte"),
+        (writes(&apart.text, &apart.table), "table.out differs at byte"),
+        (writes(&apart.text, &table), "out differs at byte"),
+        (writes(&text, &with_sum_of(&table, &drawn)), "table.out differs at byte"),
+        (writes(&text, &with_sum_of(&table, text.trim_end())), "table.out differs at byte"),
+        (writes(&text, &table.replace(&own, &own.to_lowercase())), "table.out differs at byte"),
+        (writes(&text, &table.replace(&own, "")), "table.out differs at byte"),
+        (writes(&text, &table.replace(", as A", "")), "table.out differs at byte"),
+        (writes(&text, &table.replace("U+0391", "U+0041")), "table.out differs at byte"),
+        (writes(&text, &table.replace("; U+03A9", "")), "table.out differs at byte"),
+        (writes(&text, &table.replace("3 glyphs in 2", "3 glyphs in 3")), "table.out differs at byte"),
+        (writes(&text, table.trim_end()), "table.out differs at byte"),
+        (writes(&table, &text), "out differs at byte 0"),
+        (format!("{right}; rm {TABLE}"), "table.out is missing"),
+        (format!("{right}; chmod 600 {TABLE}"), "table.out has 600 permissions, and 640 are due"),
+        (format!("{right}; cat {TABLE}"), "standard output differs"),
+        (format!("{right}; cat {TABLE} >&2"), "standard error is not what is due"),
+    ];
+    let wrong: Vec<(&str, &str)> = wrong.iter().map(|(script, words)| (&script[..], *words)).collect();
+    finds("packed", &pack("three glyphs", "g.txt", drawn.as_bytes(), To::Old, To::Old), &right, &wrong);
+
+    // Where the text is printed the table is said, and letters outside ASCII are no fault there; another byte is.
+    let printed = |text: &str, table: &str| {
+        writes(text, table).replace(&format!(" >{OUTPUT}"), "").replace(&format!(">{TABLE}"), ">&2")
+    };
+    finds(
+        "packed-and-printed",
+        &pack("three glyphs, printed", "g.txt", drawn.as_bytes(), To::Nowhere, To::Nowhere),
+        &printed(&text, &table),
+        &[
+            (&printed(&text, &off_by_one), "standard error differs at byte"),
+            (&printed(&apart.text, &table), "standard output differs at byte"),
+            (&printed(&table, &text), "standard output differs at byte 0"),
+            (&printed(&text, &table.replace('\u{3A9}', "\\xCE\\xA9")), "standard error differs at byte"),
+        ],
+    );
+}
+
+#[test]
+fn what_pack_refuses_is_looked_at() {
+    let (drawn, Packed { text, table }) = three_glyphs();
+    // A name that stands twice is not taken.
+    let twice = drawn.replace('\u{391}', "\u{3A9}");
+    let right = "echo \"g.txt:39: glyph '\u{3A9}' (U+03A9) is drawn already, at line 20\" >&2; exit 1";
+    let taken = writes(&text, &table.replace('\u{391}', "\u{3A9}"));
+    finds(
+        "twice",
+        &pack("a name twice", "g.txt", twice.as_bytes(), To::Old, To::Old),
+        right,
+        &[
+            (&taken, "status 0, and 1 is due"),
+            (&format!("{taken}; {right}"), "table.out differs"),
+            (&right.replace("line 20", "line 2"), "standard error is not what is due"),
+            (&right.replace(" (U+03A9)", ""), "standard error is not what is due"),
+            (&right.replace('\u{3A9}', "\\\\xCE\\\\xA9"), "standard error is not what is due"),
+            (&right.replace(":39:", ":38:"), "standard error is not what is due"),
+        ],
+    );
+    // 63 glyphs; any two differ in two dots at least, but for the last and the first.
+    let number = |at: usize| (0..4096).filter(|number: &usize| number.count_ones() % 2 == 0).nth(at).unwrap();
+    let row = |number: usize| format!("{number:012b}").replace('0', ".").replace('1', "#");
+    let glyph = |(at, number)| format!("glyph g{at}\n{}", format!("{}\n", row(number)).repeat(18));
+    let many: String = (0..63).map(number).enumerate().map(glyph).collect();
+    let nearly =
+        many.replacen(&format!("glyph g62\n{}", row(number(62))), &format!("glyph g62\n{}", row(number(62) ^ 1)), 1);
+    let near =
+        nearly.replacen(&format!("{}\n", row(number(62))).repeat(17), &format!("{}\n", row(number(0))).repeat(17), 1);
+    let right =
+        "echo \"g.txt:1179: glyph 'g62' finds no cell: 63 are different, leave out 1: 'g0' at line 1 and 'g62' at \
+                 line 1179 (refused 17 at 0)\" >&2; exit 1";
+    finds(
+        "refused-17",
+        &pack("63 glyphs", "g.txt", near.as_bytes(), To::Old, To::New),
+        right,
+        &[
+            (&right.replace(" (refused 17 at 0)", ""), "standard error is not what is due"),
+            (&right.replace("refused 17", "refused 16"), "standard error is not what is due"),
+            (&right.replace("at 0)", "at 62)"), "standard error is not what is due"),
+            (&right.replace("63 are", "64 are"), "standard error is not what is due"),
+            (&right.replace("leave out 1", "leave some out"), "standard error is not what is due"),
+            (&right.replace("'g0' at line 1 ", "'g1' at line 20 "), "standard error is not what is due"),
+            (&right.replace("g.txt:1179:", "g.txt:"), "standard error is not what is due"),
+            (&format!("{}; {right}", writes(&text, &table)), "out differs at byte 0"),
+            (&format!(": >{TABLE}; {right}"), "table.out is left in the folder"),
+            (&format!("echo ':00000001FF'; {right}"), "standard output differs"),
+            (&right.replace("exit 1", "exit 2"), "status 2, and 1 is due"),
+        ],
+    );
+}
+
+#[test]
+fn what_a_table_says_is_looked_at() {
+    let (drawn, Packed { text, table }) = three_glyphs();
+    let drawn = drawings(drawn.as_bytes()).unwrap();
+    let screen = "character \u{391} white\ncharacter \u{3A9} red\n";
+    let paint = Paint { table: Some(("t", table.as_bytes())), drawn: Some(&drawn), ..Paint::new(b"", text.as_bytes()) };
+    let paint = Paint { screen: ("s", screen.as_bytes()), ..paint };
+    let right = "for row in 1 2 3 4 5 6 7 8 9 10 11 12 13 14 15 16 17 18; do echo '#...........************'; done";
+    finds(
+        "named-glyphs",
+        &paint.case("names"),
+        right,
+        &[
+            (&right.replace("#.", ".#"), "standard output differs at byte 0"),
+            (&right.replace('*', "."), "standard output differs at byte 12"),
+            (&right.replace(" 18", ""), "standard output differs"),
+        ],
+    );
+    // A name that is not there, a table of another font, and a bad line before a bad screen.
+    let missing = Paint { screen: ("s", b"character B red\n"), to: To::Old, ..paint.clone() };
+    let right = "echo \"s:1: 'B' is no glyph of the table\" >&2; exit 1";
+    let wrong =
+        [(&*right.replace("'B'", "'A'"), "standard error is not what is due"), ("echo >out", "status 0, and 1")];
+    finds("no-glyph", &missing.case("no glyph"), right, &wrong);
+    let other = Paint { font: ("f", SAMPLE_TEXT), ..missing.clone() };
+    let (one, two) = (sum(text.as_bytes()), sum(SAMPLE_TEXT));
+    let strange = format!("echo 't:2: of another font: {one:08X}, and not {two:08X}' >&2");
+    let right = format!("{strange}; echo \"s:1: 'B' is no glyph of the table\" >&2; exit 1");
+    let wrong = [
+        (right.replace("t:2:", "t:1:"), "standard error is not what is due"),
+        (right.replace(&format!("{two:08X}"), "00000000"), "standard error is not what is due"),
+        (right.replace("another font", "another"), "standard error is not what is due"),
+        (format!("echo 's:2: B' >&2; {right}"), "standard error is not what is due"),
+        (format!("{strange}; exit 1"), "standard error is not what is due"),
+        (right.replace(&strange, ":"), "standard error is not what is due"),
+    ];
+    let wrong: Vec<(&str, &str)> = wrong.iter().map(|(script, words)| (&script[..], *words)).collect();
+    finds("another-font", &other.case("another font"), &right, &wrong);
+    let bad = Paint { table: Some(("t", b"cell 1 A\ncell 1 A\n")), screen: ("s", b"stop\n"), ..missing };
+    let right = "echo \"t:2: 'A' is named already, at line 1\" >&2; exit 1";
+    let wrong =
+        [("echo 's:1: stop' >&2; exit 1", "standard error is not what is due"), ("echo >out", "status 0, and 1")];
+    finds("bad-table", &bad.case("bad table"), right, &wrong);
+}
+
+#[test]
+fn letters_that_do_not_show_are_seen() {
+    let said = |words: &str| case("free", words).status(2).said(Said::IfNotDone);
+    let letter = "printf '\\316\\251\\n' >&2; exit 2";
+    let wrong = "a byte that is not printable";
+    let scripts = [
+        "printf '\\342\\200\\256\\n' >&2; exit 2",
+        "printf '\\302\\233\\n' >&2; exit 2",
+        "printf '\\357\\273\\277\\n' >&2; exit 2",
+        "printf '\\351\\n' >&2; exit 2",
+        "printf 'a\\tb\\n' >&2; exit 2",
+    ];
+    for command in ["pack", "paint"] {
+        finds("letters", &said(command), letter, &scripts.map(|script| (script, wrong)));
+    }
+    // The other commands show no name of a glyph.
+    finds("no-letters", &said("play"), "echo x >&2; exit 2", &[(letter, wrong)]);
 }
 
 #[test]

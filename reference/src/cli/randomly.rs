@@ -30,11 +30,11 @@ fn colour(value: u32, random: &mut Random) -> String {
     }
 }
 
-fn to(index: u64) -> To {
+pub fn to(index: u64) -> To {
     [To::Nowhere, To::Dash, To::New, To::Old][index as usize % 4]
 }
 
-fn line_end(random: &mut Random) -> &'static str {
+pub fn line_end(random: &mut Random) -> &'static str {
     if random.one_in(6) {
         "\r\n"
     } else {
@@ -43,7 +43,7 @@ fn line_end(random: &mut Random) -> &'static str {
 }
 
 /// Lines as a person might leave them: blanks, comments, empty lines, either line end, perhaps none at the last.
-fn typed(lines: &[String], random: &mut Random) -> String {
+pub fn typed(lines: &[String], random: &mut Random) -> String {
     let mut text = String::new();
     for line in lines {
         if random.one_in(10) {
@@ -151,16 +151,19 @@ fn random_word(style: usize, random: &mut Random) -> u16 {
     }
 }
 
-/// A word in one of its forms.
-fn word_line(word: u16, random: &mut Random) -> String {
+/// A word in one of its forms; where there are names, most characters have one.
+fn word_line(word: u16, names: &[String], random: &mut Random) -> String {
     // The colour of an end is dropped, and only the number can say it.
-    if random.one_in(4) || (word > 1009 && word % 2 == 1) {
+    if random.one_in(if names.is_empty() { 4 } else { 12 }) || (word > 1009 && word % 2 == 1) {
         return number(u32::from(word), random);
     }
     match kind(word) {
         Kind::Character { code, colour: of, blink } => {
             let blink = if blink { " blink" } else { "" };
-            format!("character {} {}{blink}", number(u32::from(code), random), colour(u32::from(of), random))
+            let by_cell = names.is_empty() || random.one_in(6);
+            let which =
+                if by_cell { number(u32::from(code), random) } else { names[random.below(names.len())].clone() };
+            format!("character {which} {}{blink}", colour(u32::from(of), random))
         }
         Kind::Space { background } => format!("space {}", colour(u32::from(background), random)),
         Kind::Return { size, spacing } => format!("return {} {}", number(size, random), number(spacing, random)),
@@ -169,12 +172,17 @@ fn word_line(word: u16, random: &mut Random) -> String {
 }
 
 pub fn screen_text(random: &mut Random) -> String {
+    screen_naming(&[], random)
+}
+
+/// A screen with some of these names.
+pub fn screen_naming(names: &[String], random: &mut Random) -> String {
     let style = random.below(4);
     let words = if random.one_in(3) { 64 } else { random.below(65) };
     let lines: Vec<String> = (0..words)
         .map(|_| {
             let word = random_word(style, random);
-            word_line(word, random)
+            word_line(word, names, random)
         })
         .collect();
     typed(&lines, random)
@@ -189,7 +197,7 @@ fn option(words: &mut String, name: &str, value: u32, random: &mut Random) -> u3
 }
 
 /// Settings, and how they are typed; most are left at their defaults.
-fn random_settings(paint: &mut Paint, random: &mut Random) {
+pub fn random_settings(paint: &mut Paint, random: &mut Random) {
     let mut words = String::new();
     let mut some = |name: &str, default: u32, limit: usize, random: &mut Random| {
         if random.one_in(2) {
@@ -278,6 +286,7 @@ pub fn waves(index: u64, random: &mut Random) -> Case {
 mod tests {
     use super::*;
     use crate::cli::case::Said;
+    use crate::cli::glyphs::Naming;
     use crate::cli::screen::screen;
     use crate::cli::wave::{events, Wave};
 
@@ -285,7 +294,7 @@ mod tests {
     fn every_screen_is_good_and_every_sort_of_word_is_there() {
         let mut random = Random::new(5);
         let texts: Vec<String> = (0..300).map(|_| screen_text(&mut random)).collect();
-        assert!(texts.iter().all(|text| screen(text.as_bytes()).is_ok()));
+        assert!(texts.iter().all(|text| screen(text.as_bytes(), &Naming::default()).is_ok()));
         for sort in ["character", "space", "return", "end", "blink", "0x", "\r\n", ";", "#"] {
             assert!(texts.iter().any(|text| text.contains(sort)), "{sort}");
         }

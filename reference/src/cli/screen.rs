@@ -1,12 +1,12 @@
 //! Screens: their words, and the picture that `paint` makes of them.
 
+use super::glyphs::{Fault, Naming};
 use crate::lines::{number, statements};
-use crate::model::display::{self, cells, WIDEST, WORDS};
-use crate::model::Refusal;
-use crate::parts::{PaintOrder, Settings};
+use crate::model::display::{cells_of, kind, Kind, WIDEST, WORDS};
+use crate::model::pack::{self, DrawnGlyph};
+use crate::parts::Settings;
 
 pub const COLOURS: [&str; 8] = ["black", "blue", "green", "cyan", "red", "magenta", "yellow", "white"];
-pub const END: u16 = 1009;
 
 fn at_most(word: &[u8], most: u32) -> Option<u32> {
     number(word).filter(|&number| number <= most)
@@ -17,21 +17,31 @@ fn colour(word: &[u8]) -> Option<u32> {
     named.map(|colour| colour as u32).or_else(|| at_most(word, 7))
 }
 
-/// The display word that a line's words say.
-fn display_word(line: &[&[u8]]) -> Option<u32> {
-    let blinks = |last: &[u8]| (last == b"blink").then_some(1);
+/// The kind of word that a line's words say, or what the message about them has to have.
+fn kind_of(line: &[&[u8]], naming: &Naming) -> Result<Kind, Vec<String>> {
+    let wrong = Vec::new;
+    let of = |word: &[u8]| colour(word).map(|colour| colour as u16).ok_or_else(wrong);
+    let character = |word: &[u8], of: u16, blink: bool| {
+        let code = naming.code(word)?;
+        Ok(Kind::Character { code, colour: of, blink })
+    };
     match line {
-        [b"character", cell, of] => Some(16 * at_most(cell, 61)? + 2 * colour(of)?),
-        [b"character", cell, of, last] => Some(16 * at_most(cell, 61)? + 2 * colour(of)? + blinks(last)?),
-        [b"space", of] => Some(16 * 63 + 2 * colour(of)?),
+        [b"character", cell, colour] => character(cell, of(colour)?, false),
+        [b"character", cell, colour, b"blink"] => character(cell, of(colour)?, true),
+        [b"space", colour] => Ok(Kind::Space { background: of(colour)? }),
         [b"return", size, spacing] => {
-            let size = at_most(size, 4).filter(|&size| size >= 1)?;
-            let spacing = at_most(spacing, 12).filter(|spacing| spacing % 4 == 0)?;
-            Some(16 * 62 + 4 * (size - 1) + spacing / 4)
+            let size = at_most(size, 4).filter(|&size| size >= 1).ok_or_else(wrong)?;
+            let spacing = at_most(spacing, 12).filter(|spacing| spacing % 4 == 0).ok_or_else(wrong)?;
+            Ok(Kind::Return { size, spacing })
         }
-        [b"end"] => Some(u32::from(END)),
-        [word] => at_most(word, 1023),
-        _ => None,
+        [b"end"] => Ok(Kind::End),
+        [word] => match kind(at_most(word, 1023).ok_or_else(wrong)? as u16) {
+            Kind::Character { code, colour, blink } => {
+                Ok(Kind::Character { code: naming.of_cell(code), colour, blink })
+            }
+            other => Ok(other),
+        },
+        _ => Err(wrong()),
     }
 }
 
@@ -40,20 +50,24 @@ pub fn is_empty(text: &[u8]) -> bool {
     statements(text).next().is_none()
 }
 
-/// The 64 words of a screen, or the number of the line that is wrong.
-pub fn screen(text: &[u8]) -> Result<Vec<u16>, usize> {
+/// The 64 words of a screen, or what is wrong with it.
+pub fn screen(text: &[u8], naming: &Naming) -> Result<Vec<Kind>, Fault> {
     let mut screen = Vec::new();
-    for (number, line) in statements(text) {
-        let word = display_word(&line).filter(|_| screen.len() < WORDS).ok_or(number)?;
-        screen.push(word as u16);
+    for (line, words) in statements(text) {
+        let fault = |names| Fault { line: Some(line), names, ..Fault::default() };
+        let kind = kind_of(&words, naming).map_err(fault)?;
+        if screen.len() == WORDS {
+            return Err(fault(Vec::new()));
+        }
+        screen.push(kind);
     }
-    screen.resize(WORDS, END);
+    screen.resize(WORDS, Kind::End);
     Ok(screen)
 }
 
 /// The greatest right edge and the greatest bottom edge of a cell, seen or not.
-pub fn edges(words: &[u16], settings: &Settings) -> (u32, u32) {
-    let cells = cells(words, settings);
+pub fn edges(words: &[Kind], settings: &Settings) -> (u32, u32) {
+    let cells = cells_of(words, settings);
     let right = cells.iter().map(|cell| cell.left + 12 * cell.size).max();
     let bottom = cells.iter().map(|cell| cell.top + 18 * cell.size).max();
     (right.unwrap_or(0), bottom.unwrap_or(0))
@@ -62,8 +76,9 @@ pub fn edges(words: &[u16], settings: &Settings) -> (u32, u32) {
 /// What is to be painted.
 #[derive(Clone, Debug)]
 pub struct Scene {
-    pub words: Vec<u16>,
-    pub font: Vec<u16>,
+    pub words: Vec<Kind>,
+    /// What the characters' codes are: the cells of a font, or drawn glyphs.
+    pub glyphs: Vec<DrawnGlyph>,
     pub settings: Settings,
     pub frame: u32,
     pub width: Option<u32>,
@@ -84,25 +99,23 @@ impl Scene {
     /// How many dots and lines the cells reach. What starts past the last dot or line is not seen, and does not count.
     fn reach(&self) -> (u32, u32) {
         let seen =
-            cells(&self.words, &self.settings).into_iter().filter(|cell| cell.left < WIDEST && cell.top < WIDEST);
+            cells_of(&self.words, &self.settings).into_iter().filter(|cell| cell.left < WIDEST && cell.top < WIDEST);
         seen.fold((1, 1), |(width, lines), cell| {
             let (right, bottom) = (cell.left + 12 * cell.size, cell.top + 18 * cell.size);
             (width.max(right.min(WIDEST)), lines.max(bottom.min(WIDEST)))
         })
     }
 
-    pub fn picture(&self) -> Result<Picture, Refusal> {
+    pub fn picture(&self) -> Picture {
         let reach = self.reach();
         let (width, lines) = (self.width.unwrap_or(reach.0), self.lines.unwrap_or(reach.1));
         let mut dots = Vec::new();
         for line in 0..lines {
             let mut painted = vec![0; width as usize];
-            let (words, font) = (&self.words[..], &self.font[..]);
-            let order = PaintOrder { words, font, settings: self.settings, frame: self.frame, line, width };
-            display::paint(&order, &mut painted)?;
+            pack::picture(&self.words, &self.glyphs, &self.settings, self.frame, line, &mut painted);
             dots.extend(painted);
         }
-        Ok(Picture { width, lines, dots })
+        Picture { width, lines, dots }
     }
 }
 
@@ -132,16 +145,27 @@ impl Picture {
 #[cfg(test)]
 mod tests {
     use super::*;
+    use crate::cli::glyphs::{drawings, table};
     use crate::model::image::FONT_ROWS;
+
+    const END: u16 = 1009;
+
+    fn kinds(words: &[u16]) -> Vec<Kind> {
+        words.iter().map(|&word| kind(word)).collect()
+    }
+
+    fn screen(text: &[u8]) -> Result<Vec<Kind>, usize> {
+        super::screen(text, &Naming::default()).map_err(|fault| fault.line.unwrap())
+    }
 
     #[test]
     fn words_by_their_parts() {
         let text =
             b"character 0 white\n space\tred ; red\n\r\n# none\nreturn 2 4#\r\ncharacter 61 0x1 blink\nend\n0x3ff";
         let words = screen(text).unwrap();
-        assert_eq!(words[..6], [14, 1016, 997, 979, 1009, 1023]);
-        assert_eq!(words[6..], [END; 58]);
-        assert_eq!(screen(b""), Ok(vec![END; 64]));
+        assert_eq!(words[..6], kinds(&[14, 1016, 997, 979, 1009, 1023]));
+        assert_eq!(words[6..], [Kind::End; 58]);
+        assert_eq!(screen(b""), Ok(vec![Kind::End; 64]));
     }
 
     #[test]
@@ -173,7 +197,7 @@ mod tests {
         ] {
             assert_eq!(screen(format!("end\n;\n{wrong}\nend\n").as_bytes()), Err(3), "{wrong}");
         }
-        assert_eq!(screen("end\n".repeat(64).as_bytes()), Ok(vec![END; 64]));
+        assert_eq!(screen("end\n".repeat(64).as_bytes()), Ok(vec![Kind::End; 64]));
         assert_eq!(screen(("end\n".repeat(64) + "\n1009").as_bytes()), Err(66));
     }
 
@@ -182,13 +206,40 @@ mod tests {
         all.resize(64, END);
         let mut font = vec![0; FONT_ROWS];
         font[0] = 2049;
-        Scene { words: all, font, settings, frame: 0, width: None, lines: None }
+        let (words, glyphs) = (kinds(&all), pack::drawn(&font));
+        Scene { words, glyphs, settings, frame: 0, width: None, lines: None }
+    }
+
+    #[test]
+    fn characters_by_name() {
+        let rows = "............\n".repeat(18);
+        let drawn = drawings(format!("glyph A\n{rows}glyph b\n{rows}").as_bytes()).unwrap();
+        let table = table(b"cell 7 A\ncell 7 b\ncell 9 more").unwrap();
+        let code = |kind: &Kind| match kind {
+            Kind::Character { code, .. } => Some(*code),
+            _ => None,
+        };
+        let codes = |drawn, text: &str| -> Result<Vec<u16>, String> {
+            let naming = Naming { table: Some(&table), drawn };
+            let words = super::screen(text.as_bytes(), &naming).map_err(|fault| fault.said("S").to_string())?;
+            Ok(words.iter().map_while(code).collect())
+        };
+        let text = "character A red\ncharacter b red blink\ncharacter more red\ncharacter 7 red\n14\n";
+        assert_eq!(codes(None, text), Ok(vec![7, 7, 9, 7, 0]));
+        assert_eq!(codes(Some(&drawn), text), Ok(vec![0, 1, 11, 9, 2]));
+        let wrong = |text: &str| codes(None, text).unwrap_err();
+        assert_eq!(wrong("character B red"), "S:1: ..'B'..is no glyph of the table..");
+        assert_eq!(wrong("character \u{3A9} red"), "S:1: ..'\u{3A9}' (U+03A9)..is no glyph of the table..");
+        assert_eq!(wrong("\ncharacter 62 red"), "S:2: ..is no cell..");
+        assert_eq!(wrong("character B purple"), "S:1: ..");
+        let bare = super::screen(b"character A red", &Naming::default()).unwrap_err();
+        assert_eq!(bare.said("S").to_string(), "S:1: ..is no cell..");
     }
 
     #[test]
     fn a_picture_is_as_large_as_its_cells_reach() {
         let size = |words: &[u16], h, v| {
-            let picture = scene(words, Settings { h, v, ..DEFAULTS }).picture().unwrap();
+            let picture = scene(words, Settings { h, v, ..DEFAULTS }).picture();
             (picture.width, picture.lines)
         };
         assert_eq!(size(&[], 0, 0), (1, 1));
@@ -208,7 +259,7 @@ mod tests {
 
     #[test]
     fn edges_are_those_of_every_cell() {
-        let edges = |words: &[u16], h, v| edges(words, &Settings { h, v, ..DEFAULTS });
+        let edges = |words: &[u16], h, v| edges(&kinds(words), &Settings { h, v, ..DEFAULTS });
         assert_eq!(edges(&[], 9, 9), (0, 0));
         assert_eq!(edges(&[997], 9, 9), (0, 0));
         assert_eq!(edges(&[14], 2, 3), (20, 30));
@@ -222,7 +273,7 @@ mod tests {
     #[test]
     fn the_worked_line_as_text_and_as_a_picture() {
         let settings = Settings { colour: 1, ..DEFAULTS };
-        let picture = Scene { width: Some(14), lines: Some(19), ..scene(&[14], settings) }.picture().unwrap();
+        let picture = Scene { width: Some(14), lines: Some(19), ..scene(&[14], settings) }.picture();
         let text = String::from_utf8(picture.text()).unwrap();
         assert_eq!(text.lines().next(), Some("#::::::::::#  "));
         assert_eq!(text.lines().nth(18), Some("              "));

@@ -124,7 +124,7 @@ impl Wave {
 
     /// The VCD file.
     pub fn vcd(&self) -> String {
-        let mut vcd = HEADING.to_string();
+        let mut vcd = heading();
         let mut before = (0, Pair::default());
         for (clock, &(level, pair)) in self.clocks.iter().enumerate() {
             let (old_level, old_pair) = before;
@@ -154,8 +154,12 @@ fn bits(pair: Pair) -> impl Iterator<Item = (char, u8)> {
     coarse.chain(fine)
 }
 
+fn heading() -> String {
+    HEADING.replace("VERSION", super::version())
+}
+
 const HEADING: &str = "\
-$comment dirgeflint 1.0: the 14-bit DAC; a time unit is a clock $end
+$comment dirgeflint VERSION: the 14-bit DAC; a time unit is a clock $end
 $timescale 1 us $end
 $scope module dac $end
 $var wire 1 l level $end
@@ -203,7 +207,7 @@ mod tests {
     }
 
     fn changes(text: &str) -> String {
-        wave(text).vcd().strip_prefix(HEADING).unwrap().replace('\n', " ")
+        wave(text).vcd().strip_prefix(&heading()).unwrap().replace('\n', " ")
     }
 
     #[test]

@@ -1,6 +1,6 @@
 //! `font` and `show`: the sample both ways, cells in any order, drawings with faults.
 
-use super::{with_cr_lf, END_RECORD, SAMPLE_DRAWING, SAMPLE_TEXT};
+use super::{typed, with_cr_lf, END_RECORD, SAMPLE_DRAWING, SAMPLE_TEXT};
 use crate::cli::case::{Case, Line};
 use crate::cli::expect::{font, show, whole_font, To};
 use crate::cli::text;
@@ -71,7 +71,6 @@ fn whole() -> Vec<Case> {
         cases.push(whole_font(&format!("{name} left out of a whole drawing"), "d.txt", drawing.as_bytes(), To::Old));
     }
     let (some, all) = (without(&[1, 9]), without(&[]));
-    let typed = |case: Case, words: &str| Case { words: crate::cli::case::case("", words).words, ..case };
     cases.extend([
         whole_font("cells left out, to standard output", "d.txt", some.as_bytes(), To::Nowhere),
         whole_font("cells left out, to -", "-", some.as_bytes(), To::Dash),
@@ -131,7 +130,6 @@ fn faults() -> Vec<Case> {
 fn shown() -> Vec<Case> {
     let all = |name: &str, text: &[u8], to: To| show(name, "f.hex", text, &[], to);
     let some = |name: &str, cells: &[usize], to: To| show(name, "f.hex", SAMPLE_TEXT, cells, to);
-    let typed = |case: Case, words: &str| Case { words: crate::cli::case::case("", words).words, ..case };
     vec![
         all("show the sample", SAMPLE_TEXT, To::Nowhere),
         all("show the sample to -", SAMPLE_TEXT, To::Dash),

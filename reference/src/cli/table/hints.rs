@@ -1,18 +1,10 @@
 //! Mistakes that are often made, each told what to do about it: where, with which number, and what the message names.
 
-use super::{with_cr_lf, SAMPLE_DRAWING, SAMPLE_TEXT};
+use super::{drawn, naming, with_cr_lf, SAMPLE_DRAWING, SAMPLE_GLYPHS, SAMPLE_TEXT};
 use crate::cli::case::{case, Case, Line, Said};
-use crate::cli::expect::{check, font, misused, play, show, Paint, To};
+use crate::cli::expect::{check, font, misused, pack, play, show, Paint, To};
 use crate::cli::text::BYTE_ORDER_MARK;
 use crate::draw;
-
-fn naming(case: Case, name: &str) -> Case {
-    let Said::Lines(lines) = &case.said else {
-        panic!("{}: which lines are said is not known", case.name);
-    };
-    let lines = lines.iter().map(|line| line.clone().naming(name)).collect();
-    case.said(Said::Lines(lines))
-}
 
 /// Every sort of file with a byte order mark before it, and with nothing else.
 fn marks() -> Vec<Case> {
@@ -27,11 +19,15 @@ fn marks() -> Vec<Case> {
         let title = |what: &str| format!("a byte order mark{name}: {what}");
         let (text, drawing) = (rest(SAMPLE_TEXT), rest(SAMPLE_DRAWING));
         let (screen, events) = (rest(b"character 1 red\n"), rest(b"play 1\n"));
+        let (glyphs, table) = (rest(SAMPLE_GLYPHS), rest(b"cell 1 A\n"));
+        let paint = Paint { to: To::Old, ..Paint::new(b"character 1 red\n", SAMPLE_TEXT) };
         cases.extend([
             check(&title("check"), false, &[("a.hex", Some(&text))]),
             check(&title("check of standard input"), true, &[("-", Some(&text))]),
             show(&title("show"), "f.hex", &text, &[], To::Old),
             font(&title("font"), "d.txt", &drawing, To::Old),
+            pack(&title("pack"), "g.txt", &glyphs, To::Old, To::Old),
+            Paint { table: Some(("t.txt", &table)), ..paint }.case(&title("paint, the table")),
             Paint { to: To::Old, ..Paint::new(&screen, SAMPLE_TEXT) }.case(&title("paint")),
             Paint { to: To::Old, ..Paint::new(b"14\n", &text) }.case(&title("paint, the font")),
             play(&title("play"), "e.txt", &events, To::Old),
@@ -80,6 +76,9 @@ fn ranges() -> Vec<Case> {
             let title = format!("the range in events: {}", text.trim().replace('\n', ", "));
             cases.push(naming(play(&title, "e.txt", text.as_bytes(), To::Old), most));
         }
+        let table = format!("cell 1 A\ncell {number} B\n");
+        let paint = Paint { table: Some(("t", table.as_bytes())), to: To::Old, ..Paint::new(b"14\n", SAMPLE_TEXT) };
+        cases.push(naming(paint.case(&format!("the range in a table: {number}")), "61"));
         let cell = format!("cell {number}\n");
         let drawn = font(&format!("the range of a cell: {number}"), "d.txt", cell.as_bytes(), To::Old);
         cases.push(naming(drawn, "61"));
@@ -103,7 +102,17 @@ fn remarks() -> Vec<Case> {
     ];
     let hinted = drawings.iter().map(|(name, drawing)| naming(font(name, "d.txt", drawing.as_bytes(), To::Old), ";"));
     let later = "cell 0\n".to_string() + &lit + "# more\n";
-    hinted.chain([font("a remark with # after a cell", "d.txt", later.as_bytes(), To::Old)]).collect()
+    let glyphs = "# glyphs\n".to_string() + &drawn("A", "............");
+    let glyphs = pack("a remark with # before glyphs", "g.txt", glyphs.as_bytes(), To::Old, To::Old);
+    let later = font("a remark with # after a cell", "d.txt", later.as_bytes(), To::Old);
+    hinted.chain([later, naming(glyphs, ";")]).collect()
+}
+
+/// Drawings of one sort where the other is due.
+fn sorts() -> Vec<Case> {
+    let glyphs = font("glyphs where cells are due", "g.txt", SAMPLE_GLYPHS, To::Old);
+    let cells = pack("cells where glyphs are due", "d.txt", SAMPLE_DRAWING, To::Old, To::Old);
+    vec![naming(glyphs, "dirgeflint pack"), naming(cells, "dirgeflint font")]
 }
 
 /// An image where a text is due, and texts that are too long.
@@ -131,5 +140,5 @@ fn texts() -> Vec<Case> {
 }
 
 pub fn all() -> Vec<Case> {
-    [marks(), ranges(), remarks(), texts()].concat()
+    [marks(), ranges(), remarks(), sorts(), texts()].concat()
 }

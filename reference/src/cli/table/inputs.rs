@@ -1,11 +1,12 @@
 //! An output that is one of the inputs: by its name, by another spelling, by a link of either sort.
 
-use super::{SAMPLE_DRAWING, SAMPLE_TEXT};
+use super::{drawn, SAMPLE_DRAWING, SAMPLE_TEXT};
 use crate::cli::case::{case, Case, Line};
 use crate::cli::folder::Thing;
 
 const EVENTS: &[u8] = b"high 1\nplay 9\n";
 const SCREEN: &[u8] = b"character 1 red\n";
+const TABLE: &[u8] = b"cell 1 A\n";
 
 fn link(to: &str) -> Thing {
     Thing::Link { to: to.to_string() }
@@ -18,33 +19,43 @@ fn name_of(of: &str) -> Thing {
 /// A run with every input there, and a folder to walk through.
 fn given(words: &str) -> Case {
     let case = case(&format!("an output: {words}"), words).file("d.txt", SAMPLE_DRAWING).file("f.hex", SAMPLE_TEXT);
+    let case = case.file("g", drawn("A", "............")).file("t", TABLE);
     case.file("s", SCREEN).file("e", EVENTS).thing("folder", Thing::Folder)
 }
 
+/// The option that names the output is the word before it.
 fn refused(case: Case, output: &str) -> Case {
-    let command = String::from_utf8_lossy(&case.words[0]).into_owned();
+    let words: Vec<String> = case.words.iter().map(|word| String::from_utf8_lossy(word).into_owned()).collect();
+    let option = words.windows(2).rfind(|pair| pair[1] == output && ["-o", "--table"].contains(&&*pair[0]));
+    let (command, option) = (&words[0], option.map_or("", |pair| &pair[0]));
     case.status(2).says(Line::exactly(format!(
-        "dirgeflint: -o {output} is also an input: name another file; try: dirgeflint help {command}"
+        "dirgeflint: {option} {output} is also an input: name another file; try: dirgeflint help {command}"
     )))
 }
 
-/// Each command with the input that its output is to be.
+/// Each command up to the option that names the output, with the input that this is to be.
 const RUNS: &[(&str, &str)] = &[
-    ("font d.txt", "d.txt"),
-    ("font --whole d.txt", "d.txt"),
-    ("show f.hex", "f.hex"),
-    ("show f.hex 3 4", "f.hex"),
-    ("paint s --font f.hex", "s"),
-    ("paint s --font f.hex --text", "s"),
-    ("paint s --font f.hex --off", "f.hex"),
-    ("paint s --font=f.hex --text", "f.hex"),
-    ("play e", "e"),
+    ("font d.txt -o", "d.txt"),
+    ("font --whole d.txt -o", "d.txt"),
+    ("pack g -o", "g"),
+    ("pack g --table new -o", "g"),
+    ("pack g --table", "g"),
+    ("pack g -o new --table", "g"),
+    ("show f.hex -o", "f.hex"),
+    ("show f.hex 3 4 -o", "f.hex"),
+    ("paint s --font f.hex -o", "s"),
+    ("paint s --font f.hex --text -o", "s"),
+    ("paint s --font f.hex --off -o", "f.hex"),
+    ("paint s --font=f.hex --text -o", "f.hex"),
+    ("paint s --font f.hex --table=t -o", "t"),
+    ("paint s --font f.hex --text --table=t -o", "s"),
+    ("play e -o", "e"),
 ];
 
 fn by_every_way() -> Vec<Case> {
     let mut cases = Vec::new();
     for (words, input) in RUNS {
-        let to = |output: &str| refused(given(&format!("{words} -o {output}")), output);
+        let to = |output: &str| refused(given(&format!("{words} {output}")), output);
         cases.push(to(input));
         cases.push(to(&format!("./{input}")));
         cases.push(to(&format!("folder/..//{input}")));
@@ -62,7 +73,10 @@ fn by_every_way() -> Vec<Case> {
 fn by_other_inputs() -> Vec<Case> {
     let cases = [
         ("font link -o d.txt", "d.txt", link("d.txt")),
-        ("font link -o ./link", "d.txt", link("d.txt")),
+        ("font link -o ./link", "./link", link("d.txt")),
+        ("pack link -o g", "g", link("g")),
+        ("pack link --table g", "g", name_of("g")),
+        ("paint s --font f.hex --table link -o t", "t", link("t")),
         ("show link -o f.hex", "f.hex", name_of("f.hex")),
         ("paint link --font f.hex -o s", "s", link("s")),
         ("paint s --font link -o f.hex", "f.hex", name_of("f.hex")),
@@ -70,10 +84,7 @@ fn by_other_inputs() -> Vec<Case> {
         ("play -o e -- link", "e", link("e")),
         ("play -o e ./e", "e", link("e")),
     ];
-    let made = cases.into_iter().map(|(words, _, thing)| {
-        let output = words.split(' ').skip_while(|word| *word != "-o").nth(1).unwrap_or_default();
-        refused(given(words).thing("link", thing), output)
-    });
+    let made = cases.into_iter().map(|(words, output, thing)| refused(given(words).thing("link", thing), output));
     made.collect()
 }
 
@@ -88,6 +99,10 @@ fn before_all_else() -> Vec<Case> {
         with("paint s --font none -o s", "s", "s", "stop\n"),
         with("paint none --font f.hex -o f.hex", "f.hex", "f.hex", ""),
         with("play e -o e", "e", "e", "play 16385\n"),
+        with("pack g -o g", "g", "g", "x\n"),
+        with("pack g --table g", "g", "g", ""),
+        with("pack g -o none/new --table ./g", "./g", "g", "x\n"),
+        with("paint none --font none --table t -o ./t", "./t", "t", "x\n"),
         with("paint - --font f.hex -o f.hex", "f.hex", "f.hex", "").input("stop\n"),
         with("font -o ./d.txt d.txt", "./d.txt", "d.txt", "x"),
     ]
@@ -102,6 +117,9 @@ fn by_standard_input() -> Vec<Case> {
         from("s", "paint - --font f.hex -o s", "s"),
         from("f.hex", "paint s --font - -o f.hex", "f.hex"),
         from("f.hex", "paint s --font - -o s", "s"),
+        from("g", "pack - -o g", "g"),
+        from("g", "pack - --table ./g", "./g"),
+        from("t", "paint s --font f.hex --table - -o ./t", "./t"),
         from("e", "play - -o e", "e"),
         from("e", "play /dev/stdin -o e", "e"),
         from("e", "play - -o name", "name").thing("name", name_of("e")),

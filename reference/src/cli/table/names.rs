@@ -1,8 +1,8 @@
 //! Names of files in messages: control characters are shown by their numbers, all other bytes are as they are.
 
-use super::{END_RECORD, SAMPLE_DRAWING, SAMPLE_TEXT};
+use super::{drawn, numbered, END_RECORD, SAMPLE_DRAWING, SAMPLE_TEXT};
 use crate::cli::case::{case, Case, Line, Said};
-use crate::cli::expect::{check, font, named, play, show, whole_font, Paint, To};
+use crate::cli::expect::{check, font, named, pack, play, show, whole_font, Paint, To};
 use std::ffi::OsStr;
 use std::os::unix::ffi::OsStrExt;
 
@@ -38,6 +38,14 @@ fn of_every_command(name: &str, shown: &str) -> Vec<Case> {
         whole_font(&title("font, cells missing, to be whole"), name, one_cell.as_bytes(), To::New),
         starts(case(&title("font, no cell"), "font").word(name).file(name, "").status(1), format!("{shown}: ")),
         starts(case(&title("font, bad"), "font").word(name).file(name, "\nx").status(1), format!("{shown}:2: ")),
+        pack(&title("pack"), name, drawn("\u{3A9}", "............").as_bytes(), To::Nowhere, To::Nowhere),
+        pack(&title("pack, no glyph"), name, b"", To::New, To::New),
+        pack(&title("pack, bad"), name, b"\nglyph 7\n", To::New, To::New),
+        pack(&title("pack, refused"), name, numbered(0..63).as_bytes(), To::New, To::New),
+        case(&title("pack, not there"), "pack").word(name).status(2).says(gone.clone()),
+        Paint { table: Some((name, b"cell 1 A\ncell 62 B\n")), ..paint.clone() }.case(&title("paint, a bad table")),
+        Paint { table: Some((name, b"font 00000000\ncell 1 A\n")), ..paint.clone() }
+            .case(&title("paint, another font's table")),
         show(&title("show, not whole"), name, END_RECORD, &[3], To::Nowhere),
         case(&title("show, not there"), "show").word(name).status(2).says(gone.clone()),
         Paint { screen: (name, b""), ..paint.clone() }.case(&title("paint, nothing there")),
@@ -49,6 +57,18 @@ fn of_every_command(name: &str, shown: &str) -> Vec<Case> {
         starts(
             case(&title("output"), "play e -o").word(format!("none/{name}")).file("e", "play 1\n").status(2),
             format!("none/{shown}: "),
+        ),
+        starts(
+            case(&title("table"), "pack g -o out --table")
+                .word(format!("none/{name}"))
+                .file("g", drawn("A", "............"))
+                .status(2),
+            format!("none/{shown}: "),
+        ),
+        case(&title("table is input"), "pack").word(name).word("--table").word(name).file(name, "").status(2).says(
+            Line::exactly(format!(
+                "dirgeflint: --table {shown} is also an input: name another file; try: dirgeflint help pack"
+            )),
         ),
         case(&title("output is input"), "play").word(name).word("-o").word(name).file(name, "play 1\n").status(2).says(
             Line::exactly(format!(
@@ -79,6 +99,7 @@ fn odd_bytes() -> Vec<Case> {
             .file("f.hex", SAMPLE_TEXT)
             .said(said(": warning: no word is given: the screen is empty\n"))
             .out(" \n"),
+        case("odd bytes in a name: pack", "pack").word(name).file(file, "").status(1).said(Said::IfNotDone),
         case("odd bytes in a name: show", "show")
             .word(name)
             .status(2)

@@ -1,13 +1,15 @@
 //! Help, the version, and wrong usage of every command.
 
-use super::{END_RECORD, SAMPLE_DRAWING, SAMPLE_TEXT};
+use super::{END_RECORD, SAMPLE_DRAWING, SAMPLE_GLYPHS, SAMPLE_TEXT};
 use crate::cli::case::{case, Case, Line, Said};
 use crate::cli::expect::{check, misused, Paint, PAINT_OPTIONS};
+use crate::cli::version;
 
 /// The commands with the options that their help has to name.
 const COMMANDS: &[(&str, &[&str])] = &[
     ("check", &["--whole"]),
     ("font", &["--whole", "-o"]),
+    ("pack", &["--table", "-o"]),
     ("show", &["-o"]),
     ("paint", PAINT_OPTIONS),
     ("play", &["-o"]),
@@ -20,7 +22,7 @@ fn help() -> Vec<Case> {
         case("help", "help").out_naming(&names),
         case("help as an option", "--help").out_naming(&names),
         case("help as a short option", "-h").out_naming(&names),
-        case("version", "--version").out("dirgeflint 1.0\n"),
+        case("version", "--version").out(format!("dirgeflint {}\n", version())),
     ];
     for (command, options) in COMMANDS {
         let names: Vec<&str> = options.iter().copied().chain([*command]).collect();
@@ -49,6 +51,11 @@ fn dashes() -> Vec<Case> {
         "font d.txt -o --whole",
         "font d.txt -o -x",
         "font -o -- d.txt",
+        "pack g.txt -o --table",
+        "pack g.txt -o --table t",
+        "pack g.txt --table -x",
+        "pack g.txt --table --",
+        "pack --table -o out g.txt",
         "show f.hex -o -1",
         "show -o -o f.hex",
         "paint s --font --mode",
@@ -56,6 +63,8 @@ fn dashes() -> Vec<Case> {
         "paint s --font -x",
         "paint s --font -- f.hex",
         "paint s --font f.hex -o --text",
+        "paint s --font f.hex --table -x",
+        "paint s --table --font f.hex",
         "paint s --font f.hex --mode --off",
         "paint s --font f.hex --mode -1",
         "paint s --font f.hex --colour -red",
@@ -101,7 +110,7 @@ fn wrong(words: &str) -> Case {
     let command = words.split(' ').next().unwrap_or_default();
     let case = case(&format!("wrong usage: {words}"), words);
     let case = case.file("a.hex", END_RECORD).file("f.hex", SAMPLE_TEXT).file("s", "end\n").file("e", "play 1\n");
-    misused(case.file("d.txt", SAMPLE_DRAWING), command)
+    misused(case.file("d.txt", SAMPLE_DRAWING).file("g.txt", SAMPLE_GLYPHS).file("t", "cell 1 A\n"), command)
 }
 
 const WRONG: &[&str] = &[
@@ -124,6 +133,30 @@ const WRONG: &[&str] = &[
     "font d.txt -o out -o other",
     "font d.txt --text",
     "font -x d.txt",
+    "font d.txt --table t",
+    "pack",
+    "pack -o out",
+    "pack --table out",
+    "pack g.txt g.txt",
+    "pack g.txt -o",
+    "pack g.txt --table",
+    "pack g.txt --table=a --table b",
+    "pack g.txt -o a -o b",
+    "pack g.txt --whole",
+    "pack g.txt --text",
+    "pack g.txt --font f.hex",
+    "pack -t out g.txt",
+    "pack g.txt --tables out",
+    "pack -- g.txt -o out",
+    "pack - -",
+    // Text and table both to standard output, or to one file.
+    "pack g.txt --table -",
+    "pack g.txt --table=-",
+    "pack - --table -",
+    "pack g.txt -o - --table -",
+    "pack --table - -o - -- g.txt",
+    "pack g.txt -o out --table out",
+    "pack g.txt -o out --table=./out",
     "show",
     "show f.hex 62",
     "show f.hex 0 1 62",
@@ -134,6 +167,7 @@ const WRONG: &[&str] = &[
     "show f.hex f.hex",
     "show f.hex -o",
     "show f.hex --whole",
+    "show f.hex --table t",
     "paint",
     "paint s",
     "paint --font f.hex",
@@ -153,6 +187,17 @@ const WRONG: &[&str] = &[
     "paint s --font f.hex --Mode 1",
     "paint s --font f.hex --wid 8",
     "paint - --font -",
+    "paint - --font f.hex --table -",
+    "paint s --font - --table -",
+    "paint - --font - --table -",
+    "paint s --font f.hex --table",
+    "paint s --font f.hex --table t --table t",
+    "paint s --font f.hex --table t --table=t",
+    "paint s --table t",
+    "paint s --font f.hex t",
+    "check f.hex --table t",
+    "play e --table t",
+    "pulse 4 194 --table t",
     "play",
     "play e e",
     "play e -o",
