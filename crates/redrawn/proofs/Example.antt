@@ -22,7 +22,7 @@ use Rattle.display.specs.Cells.{kindCell, afterWord, cellsFrom}
 use Rattle.display.specs.Picture.{shownDot, dotAt}
 use Rattle.display.specs.Painting.{dotOf, lineOf}
 use Rattle.packer.specs.Glyphs.{glyphsIn, samePattern, isFirst, patternsBefore, patternsIn, cellFor}
-use Rattle.packer.specs.Packing.{areGlyphs, answerOf}
+use Rattle.packer.specs.Packing.{areWhole, areGlyphs, answerOf}
 use Rattle.packer.proofs.Dots.{same-dots, dots-same}
 use Rattle.packer.proofs.Patterns.{none-before, first-where, cell-first, like-cell}
 use Rattle.sharing.specs.Sharing.{Accepted}
@@ -42,7 +42,7 @@ each-row : (k : ℕ) → k < length glyphs → getD glyphs k 0 ≤ mostRow
 each-row k l = omega (arith, getD-tabulate (cellRows * count) (λ (i : ℕ). number (i / cellRows)) k 0 (omega (arith, rows)))
 
 are-glyphs : areGlyphs glyphs ≡ true
-unfolding areGlyphs
+unfolding areGlyphs areWhole
 are-glyphs = rw (rows, within-each mostRow glyphs each-row)
 
 row-is : (g l : ℕ) → g < count → l < cellRows → rowOf glyphs g l ≡ number g
