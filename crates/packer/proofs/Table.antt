@@ -49,9 +49,11 @@ pub record Table (glyphs : List ℕ) (g used : ℕ) (firsts₀ firsts numbers₀
   pub last : Heads glyphs used heads
   pub cell : Filled (λ h. cellFor glyphs h + 1) g numbers numbers₀
 
-pub table-none : (glyphs firsts numbers : List ℕ) → Table glyphs 0 0 firsts firsts numbers numbers (replicate 62 0) (replicate 62 0) (replicate 256 0)
+pub table-none : (glyphs firsts numbers : List ℕ) (g used : ℕ) → g ≡ 0 → used ≡ 0
+    → Table glyphs g used firsts firsts numbers numbers (replicate 62 0) (replicate 62 0) (replicate 256 0)
 unfolding patternsBefore countOf lastOf
-table-none glyphs firsts numbers =
+table-none glyphs firsts numbers g used start none =
+    rw (start, none)
     record {
       below = omega arith;
       all = refl;

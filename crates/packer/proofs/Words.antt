@@ -129,8 +129,8 @@ module _ (glyphs : List ℕ) where
         assoc x = omega arith
 
     -- the last two rows decide where those before them agree
-    pub last-decide : (x y n : ℕ) → 16 ≤ n → Rows glyphs x y n → eqb (twoAt glyphs (x + 16)) (twoAt glyphs (y + 16)) ≡ sameRows glyphs x y
-    last-decide x y n le rows = go _ refl
+    pub last-decide : (x y n p q : ℕ) → 16 ≤ n → Rows glyphs x y n → p ≡ twoAt glyphs (x + 16) → q ≡ twoAt glyphs (y + 16) → eqb p q ≡ sameRows glyphs x y
+    last-decide x y n p q le rows is-p is-q = rw (is-p, is-q) (go _ refl)
       where
         go : (t : Bool) → eqb (twoAt glyphs (x + 16)) (twoAt glyphs (y + 16)) ≡ t → t ≡ sameRows glyphs x y
         go true e = sym (rows-same x y (λ l lt. more-two x y 16 n (omega arith) (eqb-true _ _ e) rows l (omega arith)))

@@ -65,7 +65,10 @@ fn are_whole(glyphs: &[u16]) -> bool
     if glyphs.len() % font::CELL_ROWS != 0 {
         return false;
     }
-    glyphs.len() / font::CELL_ROWS <= MOST_GLYPHS
+    if MOST_GLYPHS < glyphs.len() / font::CELL_ROWS {
+        return false;
+    }
+    true
 }
 
 // The rows where the first glyph of each pattern starts, and the cell of each glyph and one. A glyph that agrees with an earlier one has rows as

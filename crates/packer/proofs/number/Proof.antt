@@ -20,7 +20,7 @@ abbrev μ-loop : tie.MeasureT-loop
 μ-loop glyphs firsts₀ numbers₀ count heads₀ nexts₀ used₀ g₀ firsts numbers heads nexts used g = count - g
 
 loop-holds : tie.Need-loop-holds Inv-loop μ-loop
-loop-holds c = table-none _ _ _
+loop-holds c = table-none _ _ _ _ _ (omega arith) (omega arith)
 
 mul-at : tie.Need-mul-at Inv-loop μ-loop
 mul-at c =

@@ -73,9 +73,9 @@ returns-2 c =
     let a = (let s : tie.Start Inv-loop μ-loop = search in s .args) in
     let fits : Fit (fInt w16) 0 (a .glyphs .now) = search in
     let turn = (let h : tie.At-loop Inv-loop μ-loop = search in h .loop) in
-    let one = (let p : tie.After-two Inv-loop μ-loop = search in p .two .ensures .0) in
-    let other = (let p : tie.After-two2 Inv-loop μ-loop = search in p .two2 .ensures .0) in
-    rw (one, other) (last-decide (a .glyphs .now) (λ k. omega (arith, fits k)) (a .x) (a .y) (turn .l) (omega arith) (turn .inv .1 .1))
+    let one = (let p : tie.After-two Inv-loop μ-loop = search in p .two) in
+    let other = (let p : tie.After-two2 Inv-loop μ-loop = search in p .two2) in
+    last-decide (a .glyphs .now) (λ k. omega (arith, fits k)) (a .x) (a .y) (turn .l) (one .result) (other .result) (omega arith) (turn .inv .1 .1) (omega (arith, one .ensures .0)) (omega (arith, other .ensures .0))
 
 pub same-spec : {M : Type 1} → statement M
 same-spec =
