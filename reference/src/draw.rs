@@ -72,13 +72,11 @@ fn row(line: &[u8]) -> Result<u16, String> {
     Ok(bits)
 }
 
-/// The rows of a drawing, 18 for each heading. The headings are handed on with their lines, counted from 1; `heading`
-/// says what is wrong with one.
-pub fn rows(
-    drawing: &[u8],
-    word: &str,
-    heading: &mut dyn FnMut(usize, &[u8]) -> Result<(), String>,
-) -> Result<Vec<u16>, Complaint> {
+/// Takes a heading and the number of its line, counted from 1, or says what is wrong with it.
+pub type Heading<'a> = &'a mut dyn FnMut(usize, &[u8]) -> Result<(), String>;
+
+/// The rows of a drawing, 18 for each heading.
+pub fn rows(drawing: &[u8], word: &str, heading: Heading) -> Result<Vec<u16>, Complaint> {
     let mut rows = Vec::new();
     // Of the heading that was read last.
     let mut rows_due = 0;

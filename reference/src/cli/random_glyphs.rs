@@ -207,9 +207,7 @@ mod tests {
             numbers.push(drawn.names.len());
             refused.extend(drawn.packed().err().and_then(|fault| fault.refused));
         }
-        assert!(
-            numbers.iter().any(|&number| number == 1) && numbers.iter().filter(|&&number| number == 256).count() > 5
-        );
+        assert!(numbers.contains(&1) && numbers.iter().filter(|&&number| number == 256).count() > 5);
         assert!(refused.iter().filter(|&&number| number == 16).count() > 2);
         assert!(refused.iter().filter(|&&number| number == 17).count() > 5);
         assert!(refused.len() < 60);
