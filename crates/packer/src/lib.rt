@@ -254,8 +254,7 @@ fn lay(
 ) -> Packed
     requires { ⌜ AllNumbered (now glyphs) (now firsts) (now numbers) used ⌝ }
     ensures { λ r. ⌜ (said r ≡ answerOf (now (glyphs .entry)) (length (now (font .entry))) (length (now (cells .entry))))
-        × (now (font .exit) ≡ fontLeft (now (glyphs .entry)) (now (font .entry)) (now (cells .entry)))
-        × (now (cells .exit) ≡ cellsLeft (now (glyphs .entry)) (now (font .entry)) (now (cells .entry))) ⌝ }
+        × (now (font .exit) ≡ fontLeft (now (glyphs .entry)) (now (font .entry)) (now (cells .entry))) × (now (cells .exit) ≡ cellsLeft (now (glyphs .entry)) (now (font .entry)) (now (cells .entry))) ⌝ }
 {
     let count = glyphs.len() / font::CELL_ROWS;
     if font.len() < font::FONT_ROWS {

@@ -21,8 +21,8 @@ returns c =
     let a = (let s : tie.Start = search in s .args) in
     let none : areWhole (a .glyphs .now) ≡ false = search test-fails in
     let told = not-glyphs (a .glyphs .now) (a .font .now) (a .cells .now) (not-whole (a .glyphs .now) none) in
-    let left = leaves (a .glyphs .now) (a .font .now) (a .cells .now) 16 (omega arith) told in
-    (said-by told (omega arith) (omega arith) (omega arith), left .0, left .1)
+    let whole = leaves (a .glyphs .now) (a .font .now) (a .cells .now) 16 (omega arith) told in
+    (said-by told (omega arith) (omega arith) (omega arith), whole .0, whole .1)
 
 slice-aggregate-number : tie.Need-slice-aggregate-number
 slice-aggregate-number c = search needs
@@ -60,8 +60,8 @@ returns-2 c =
     let number = (let p : tie.After-number = search in p .number) in
     let is : number .result ≡ TooWide = search in
     let told = not-glyphs (a .glyphs .now) (a .font .now) (a .cells .now) (numbered-wide _ _ _ _ is (number .ensures)) in
-    let left = leaves (a .glyphs .now) (a .font .now) (a .cells .now) 16 (omega arith) told in
-    (said-by told (omega arith) (omega arith) (omega arith), left .0, left .1)
+    let wide = leaves (a .glyphs .now) (a .font .now) (a .cells .now) 16 (omega arith) told in
+    (said-by told (omega arith) (omega arith) (omega arith), wide .0, wide .1)
 
 returns-3 : tie.Need-returns-3
 returns-3 c =
@@ -70,8 +70,8 @@ returns-3 c =
     let is : number .result ≡ TooMany = search in
     let many = numbered-many _ _ _ _ is (number .ensures) in
     let told = too-many (a .glyphs .now) (a .font .now) (a .cells .now) (many .0) (many .1) in
-    let left = leaves (a .glyphs .now) (a .font .now) (a .cells .now) 17 (omega arith) told in
-    (said-by told (omega arith) (omega arith) (omega arith), left .0, left .1)
+    let over = leaves (a .glyphs .now) (a .font .now) (a .cells .now) 17 (omega arith) told in
+    (said-by told (omega arith) (omega arith) (omega arith), over .0, over .1)
 
 same-length : tie.Need-same-length
 same-length c = search needs

@@ -1,7 +1,6 @@
 -- `packer::row` meets its contract: a row has 16 bits.
 -- Assumes nothing.
 use native.Mathlib.Omega.{arith}
-use mathlib.Core.Path.{refl}
 use mir.Syntax.{w16}
 use borrow.Table.Referent.{fInt}
 use borrow.Rule.Slice.Know.{Fit}
@@ -24,7 +23,7 @@ returns : tie.Need-returns
 returns c =
     let a = (let s : tie.Start = search in s .args) in
     let fits : Fit (fInt w16) 0 (a .rows .now) = search in
-    (refl, omega (arith, fits (a .at)))
+    (omega arith, omega (arith, fits (a .at)))
 
 pub row-spec : {M : Type 1} → statement M
 row-spec = tie.close (tie.spec mul-result shared-slice-read-result cast-result returns)
