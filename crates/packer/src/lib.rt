@@ -15,10 +15,13 @@ pub const MOST_GLYPHS: usize = 256;
 // The spots that patterns are kept at.
 const SPOTS: usize = 256;
 
-// What a row, and two rows, are counted up to in a number of 64 bits: its parts, and its halves.
+// One more than the largest row, and than the largest two, in a number of four rows: its parts are counted up to the one, its halves to the other.
 const PART: u64 = 65536;
 
 const HALF: u64 = 4294967296;
+
+// What takes the lower part of a product of halves away.
+const LOWER: u64 = 1073741824;
 
 pub enum Packed {
     // How many cells the glyphs take.
@@ -71,8 +74,8 @@ fn are_whole(glyphs: &[u16]) -> bool
     true
 }
 
-// The rows where the first glyph of each pattern starts, and the cell of each glyph and one. A glyph that agrees with an earlier one has rows as
-// narrow as that one's, so that only new patterns are looked at for rows above 4095.
+// The row that the first glyph of each pattern starts at, and for each glyph one more than its cell. A glyph that agrees with an earlier one has rows
+// as narrow as that one's, so that only new patterns are looked at for rows above 4095.
 fn number(glyphs: &[u16], firsts: &mut [u16], numbers: &mut [u8]) -> Numbering
     requires { ⌜ ToNumber (now glyphs) (now firsts) (now numbers) ⌝ }
     ensures { λ r. ⌜ Numbered (now (glyphs .entry)) (now (firsts .exit)) (now (numbers .exit)) r ⌝ }
@@ -92,7 +95,7 @@ fn number(glyphs: &[u16], firsts: &mut [u16], numbers: &mut [u8]) -> Numbering
                 return Numbering::TooWide;
             }
             if used == font::FONT_CELLS {
-                return too_many(glyphs);
+                return over(glyphs);
             }
             firsts[used] = at as u16;
             nexts[used] = head as u8;
@@ -106,8 +109,8 @@ fn number(glyphs: &[u16], firsts: &mut [u16], numbers: &mut [u8]) -> Numbering
     Numbering::All(used)
 }
 
-// A glyph finds no cell: too many patterns, unless a later glyph is none.
-fn too_many(glyphs: &[u16]) -> Numbering
+// A glyph finds no cell: there are too many patterns, unless a row further on is above 4095, which goes before.
+fn over(glyphs: &[u16]) -> Numbering
     ensures { λ r. ⌜ r ≡ overOf (now (glyphs .entry)) ⌝ }
 {
     if font::all_within(glyphs, font::MOST_ROW) {
@@ -117,7 +120,8 @@ fn too_many(glyphs: &[u16]) -> Numbering
     }
 }
 
-// The cell, and one, of the pattern with the rows from `at` on, or 0: first the last pattern of its spot, which it mostly is, then those before it.
+// One more than the cell of the pattern with the rows from `at` on, or 0 where there is none. It looks at the last pattern of the spot by itself, as that
+// is mostly the one: so the usual glyph goes through no loop, which is a tenth of a call's time.
 fn find(glyphs: &[u16], firsts: &[u16], nexts: &[u8], head: usize, at: usize) -> usize
     requires { ⌜ Chained (now glyphs) (now firsts) (now nexts) head at ⌝ }
     ensures { λ r. ⌜ ((used : ℕ) → Walk (now (glyphs .entry)) (now (firsts .entry)) (now (nexts .entry)) at used head → Found (now (glyphs .entry)) at used r) ⌝ }
@@ -134,7 +138,7 @@ fn find(glyphs: &[u16], firsts: &[u16], nexts: &[u8], head: usize, at: usize) ->
     further(glyphs, firsts, nexts, next, at)
 }
 
-// The same from a later pattern of the chain on.
+// The same by a loop, from any pattern of the chain on.
 fn further(glyphs: &[u16], firsts: &[u16], nexts: &[u8], head: usize, at: usize) -> usize
     requires { ⌜ Chained (now glyphs) (now firsts) (now nexts) head at ⌝ }
     ensures { λ r. ⌜ ((used : ℕ) → Walk (now (glyphs .entry)) (now (firsts .entry)) (now (nexts .entry)) at used head → Found (now (glyphs .entry)) at used r) ⌝ }
@@ -169,12 +173,12 @@ fn with_twice(one: u64, other: u64) -> u64
     std::num::wrapping_add_u64(std::num::wrapping_add_u64(one, other), other)
 }
 
-// A spot by all bits of a number: eight from the middle of its halves' product.
+// A spot by both halves of a number: eight bits from the middle of their product.
 fn mixed(number: u64) -> usize
     ensures { λ r. ⌜ r ≡ mixedSpot number ⌝ }
 {
     let product = (number % HALF) * (number / HALF);
-    (product / 1073741824 % 256) as usize
+    (product / LOWER) as usize % SPOTS
 }
 
 // Whether two glyphs have the same rows.

@@ -88,8 +88,8 @@ returns c =
     let wide : narrowAt (a .glyphs .now) (18 * turn .g) ≡ false = sym narrow ∙ not-true _ search in
     table-wide (a .glyphs .now) (turn .g) (turn .used) _ (turn .firsts) _ (turn .numbers) _ (turn .nexts) (turn .heads) (s .pre) (turn .inv) (omega arith) wide
 
-too-many-requires : tie.Need-too-many-requires Inv-loop μ-loop
-too-many-requires c κs = search needs
+over-requires : tie.Need-over-requires Inv-loop μ-loop
+over-requires c κs = search needs
 
 same-length-3 : tie.Need-same-length-3 Inv-loop μ-loop
 same-length-3 c =
@@ -113,7 +113,7 @@ returns-2 c =
     let by = found .ensures (turn .used) (table-walk (a .glyphs .now) (turn .g) (turn .used) _ (turn .firsts) _ (turn .numbers) _ (turn .nexts) (turn .heads) (s .pre) (turn .inv) (omega arith) _ _ (spot .ensures) refl) in
     let narrow = (let p : tie.After-narrow Inv-loop μ-loop = search in p .narrow .ensures) in
     let slim : narrowAt (a .glyphs .now) (18 * turn .g) ≡ true = sym narrow ∙ not-false _ search in
-    let over = (let p : tie.After-too-many Inv-loop μ-loop = search in p .too-many .ensures) in
+    let over = (let p : tie.After-over Inv-loop μ-loop = search in p .over .ensures) in
     table-over (a .glyphs .now) (turn .g) (turn .used) _ (turn .firsts) _ (turn .numbers) _ (turn .nexts) (turn .heads) (s .pre) (turn .inv) (omega arith) _ _ (spot .ensures) refl _ by (omega arith) slim (omega arith) _ over
 
 cast-firsts : tie.Need-cast-firsts Inv-loop μ-loop
@@ -246,7 +246,7 @@ number-spec =
     same-length
     same-length-2
     returns
-    too-many-requires
+    over-requires
     same-length-3
     same-length-4
     returns-2

@@ -1,12 +1,12 @@
--- `packer::too_many` meets its contract: the test decides.
+-- `packer::over` meets its contract: the test decides.
 -- Assumes nothing.
 use borrow.Author.Needs.{needs}
 use mathlib.Core.Path.{_≡_, sym, _∙_}
 use mathlib.Core.Bool.{true, false}
 use Rattle.laws.specs.Within.{within}
 use Rattle.font.specs.Font.{mostRow}
-use Rattle.packer.proofs.too_many.Statement.{statement}
-use Rattle.packer.proofs.too_many.Tie as tie
+use Rattle.packer.proofs.over.Statement.{statement}
+use Rattle.packer.proofs.over.Tie as tie
 
 all-within-requires : tie.Need-all-within-requires
 all-within-requires c κs = search needs
@@ -25,5 +25,5 @@ returns-2 c =
     let wide : within mostRow glyphs ≡ false = sym all ∙ search in
     rw wide
 
-pub too-many-spec : {M : Type 1} → statement M
-too-many-spec = tie.close (tie.spec all-within-requires returns returns-2)
+pub over-spec : {M : Type 1} → statement M
+over-spec = tie.close (tie.spec all-within-requires returns returns-2)
