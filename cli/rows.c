@@ -10,8 +10,8 @@ static int end_rows(const struct rows *rows)
 {
     if (rows->row == DIRGEFLINT_CELL_ROWS)
         return DONE;
-    return bad_input(rows->file, rows->lines.number, "%s has %lu rows so far, and ends here: draw all %d", rows->label, (unsigned long)rows->row,
-                     (int)DIRGEFLINT_CELL_ROWS);
+    return bad_input(rows->file, rows->lines.number, "%s has %lu row%s so far, and ends here: draw all %d", rows->label, (unsigned long)rows->row,
+                     rows->row == 1 ? "" : "s", (int)DIRGEFLINT_CELL_ROWS);
 }
 
 static int begin_rows(struct rows *rows, struct slice rest)
@@ -35,7 +35,8 @@ static int read_dots(const struct rows *rows, struct slice line, uint16_t *row)
         dots = (dots << 1 | (dot.start[0] == '#')) & DIRGEFLINT_MOST_ROW;
     }
     if (line.length != DIRGEFLINT_CELL_DOTS)
-        return bad_input(rows->file, rows->lines.number, "the row has %zu dots: it has to have %d", line.length, (int)DIRGEFLINT_CELL_DOTS);
+        return bad_input(rows->file, rows->lines.number, "the row has %zu dot%s: it has to have %d", line.length, line.length == 1 ? "" : "s",
+                         (int)DIRGEFLINT_CELL_DOTS);
     *row = (uint16_t)dots;
     return DONE;
 }
