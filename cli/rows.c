@@ -45,7 +45,7 @@ static int read_row(struct rows *rows, struct slice line)
 {
     if (rows->to == NULL)
         return bad_input(rows->file, rows->lines.number, "a row before the first heading: write a line such as %s above it%s", rows->drawn->example,
-                         line.start[0] == '#' ? "; if it is a remark, begin it with ;" : "");
+                         line.start[0] == '#' ? "; if it is a comment, begin it with ;" : "");
     if (rows->row == DIRGEFLINT_CELL_ROWS)
         return bad_input(rows->file, rows->lines.number, "a row more than the %s's %d: remove it, or write the next heading above it", rows->drawn->word,
                          (int)DIRGEFLINT_CELL_ROWS);
@@ -68,7 +68,8 @@ static int read_line(struct rows *rows, struct slice line)
     if (slice_is(word, drawn->other))
         return bad_input(rows->file, rows->lines.number, "%s is neither a heading (%s) nor a row of # and .: drawings of %ss are for " PROGRAM " %s", room,
                          drawn->form, drawn->other, drawn->command);
-    return bad_input(rows->file, rows->lines.number, "%s is neither a heading (%s) nor a row of # and .", room, drawn->form);
+    return bad_input(rows->file, rows->lines.number, "%s is neither a heading (%s) nor a row of # and .%s", room, drawn->form,
+                     word.start == line.start ? "" : ": take out the blanks at its start, or write . for them");
 }
 
 static int read_lines(struct rows *rows)
