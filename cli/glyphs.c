@@ -12,7 +12,8 @@ static int judge_rest(const struct rows *rows, struct slice rest)
     struct slice word = next_word(&rest);
     if (word.length == 0 || word.start[0] == ';' || word.start[0] == '#')
         return DONE;
-    return bad_input(rows->file, rows->lines.number, "%s follows the name: a name is one word, such as volume-bar; a comment begins with ;", shown(word, room));
+    return bad_input(rows->file, rows->lines.number, "%s follows the name: a name is one word, such as volume-bar; a comment begins with ; or #",
+                     shown(word, room));
 }
 
 /* Notes a name that is not there yet. */

@@ -85,7 +85,8 @@ static const char on_pack[] =
     "              standard error if the text goes to standard output\n"
     "\n"
     "The drawings have for each glyph a heading, 'glyph' and a name, with a comment\n"
-    "after ; or nothing; then 18 rows of 12 dots, # lit and . unlit:\n"
+    "after it, which begins with ; or #, or none; then 18 rows of 12 dots, # lit and\n"
+    ". unlit:\n"
     "\n"
     "  glyph A\n"
     "  ............\n"
@@ -102,8 +103,8 @@ static const char on_pack[] =
     "  cell 00 big-a ; as A\n"
     "  cell 01 volume-bar-3\n"
     "\n"
-    "Line 1 is what paint knows the font by. Empty lines, and lines that begin with ;,\n"
-    "are passed over in drawings and tables.\n" STATUS("the drawings are bad or were refused", CANNOT_WRITE);
+    "The line 'font' is what paint knows the font by. Empty lines, and lines that\n"
+    "begin with ;, are passed over in drawings and tables.\n" STATUS("the drawings are bad or were refused", CANNOT_WRITE);
 
 static const char on_show[] =
     "usage: dirgeflint show FONT.hex [CELL ..] [-o DRAWING.txt]\n"

@@ -57,7 +57,7 @@ static bool is_in(struct slice word, char byte)
 static const char *broken_rule(struct slice word)
 {
     if (word.length == 0)
-        return "it is missing; write one word, such as A or volume-bar";
+        return "a heading has one word for it, such as glyph A or glyph volume-bar";
     if (word.start[0] >= '0' && word.start[0] <= '9')
         return "it begins with a digit, as a cell's number does; write such as digit-7";
     if (word.length > MOST_NAME)

@@ -46,18 +46,21 @@ static int take_option(const struct usage *usage, const char *word, const char *
 {
     struct slice name = name_part(word);
     struct option *option = find_option(usage->options, name);
-    const char *value = word[name.length] == '=' ? word + name.length + 1 : NULL;
-    int taken = value == NULL && option != NULL && option->takes_value ? 2 : 1;
+    const char *joined = word[name.length] == '=' ? word + name.length + 1 : NULL;
+    int taken = joined == NULL && option != NULL && option->takes_value ? 2 : 1;
+    const char *value = taken == 2 ? next : joined != NULL ? joined : word;
     if (option == NULL)
         no_option(usage, name);
     else if (option->value != NULL)
         wrong_usage(usage->command, "%s is given twice", option->name);
-    else if (!option->takes_value && value != NULL)
+    else if (!option->takes_value && joined != NULL)
         wrong_usage(usage->command, "%s takes no value", option->name);
     else if (taken == 2 && !is_value(next))
         wrong_usage(usage->command, "%s needs a value", option->name);
+    else if (value[0] == '\0')
+        wrong_usage(usage->command, "%s needs a value, and the one given is empty", option->name);
     else {
-        option->value = taken == 2 ? next : value != NULL ? value : word;
+        option->value = value;
         return taken;
     }
     return 0;

@@ -35,14 +35,24 @@ static void hold_standard_files(void)
             _Exit(TROUBLE);
 }
 
+static const int ends[] = { SIGHUP, SIGINT, SIGPIPE, SIGTERM };
+
 void prepare_output(void)
 {
-    static const int ends[] = { SIGHUP, SIGINT, SIGPIPE, SIGTERM };
     hold_standard_files();
     for (size_t i = 0; i < sizeof ends / sizeof ends[0]; i++)
         if (signal(ends[i], remove_unfinished) == SIG_IGN)
             signal(ends[i], SIG_IGN);
     signal(SIGXFSZ, SIG_IGN); /* a file that grows too large is trouble with a file, and told like it */
+}
+
+static void hold_signals(sigset_t *before)
+{
+    sigset_t held;
+    sigemptyset(&held);
+    for (size_t i = 0; i < sizeof ends / sizeof ends[0]; i++)
+        sigaddset(&held, ends[i]);
+    sigprocmask(SIG_BLOCK, &held, before);
 }
 
 bool is_standard_output(const char *path)
@@ -162,6 +172,17 @@ static bool keep_permissions(int file, const struct stat *old)
     return fchmod(file, old == NULL ? usual_mode() : old->st_mode & 07777) == 0;
 }
 
+/* In a folder with the sticky bit, as /tmp is, only the owner of a file or of the folder may replace it. */
+static bool may_replace(const char *target, const struct stat *old)
+{
+    struct stat folder;
+    uid_t user = geteuid();
+    if (user == 0 || user == old->st_uid || !look_at_folder(target, &folder) || (folder.st_mode & S_ISVTX) == 0 || user == folder.st_uid)
+        return true;
+    errno = EPERM;
+    return false;
+}
+
 /* Opens the temporary file, named already, for what is to replace old, if there is such a file. */
 static FILE *open_temporary(char *temporary, const struct stat *old)
 {
@@ -186,6 +207,7 @@ static void forget(struct output *output)
             unfinished[i] = NULL;
     free(output->target);
     free(output->temporary);
+    free(output->kept);
 }
 
 /* Opens the file that is to replace the path's, or the path itself where that is no regular file. */
@@ -195,10 +217,13 @@ static FILE *open_file(const char *path, struct output *output)
     bool exists = stat(path, &old) == 0;
     if (exists && !S_ISREG(old.st_mode))
         return fopen(path, "wb");
-    if (exists && access(path, W_OK) == -1)
+    if (exists ? access(path, W_OK) == -1 : errno != ENOENT) /* where the name is too long a temporary file could be made, but not renamed */
         return NULL;
     output->target = follow_links(beside("", path));
-    if (output->target == NULL || (output->temporary = beside(output->target, ".dirgeflint-XXXXXX")) == NULL)
+    if (output->target == NULL || (exists && !may_replace(output->target, &old)))
+        return NULL;
+    output->temporary = beside(output->target, ".dirgeflint-XXXXXX");
+    if (output->temporary == NULL)
         return NULL;
     return open_temporary(output->temporary, exists ? &old : NULL);
 }
@@ -248,23 +273,60 @@ static int end_writing(const struct output *output, int status)
     return close_stream(output->stream) || status != DONE ? status : file_trouble(output->name, "written");
 }
 
-/* Puts the temporary file, if there is one, in its place, or removes it. */
-static int settle(struct output *output, int status)
+/* Gives the file that is to be replaced, if there is one, a second name, so that it can be put back. */
+static bool keep_old(struct output *output)
 {
-    if (output->temporary != NULL && status == DONE && rename(output->temporary, output->target) == -1)
-        status = file_trouble(output->name, "written");
-    if (output->temporary != NULL && status != DONE)
+    static const char more[] = "-old";
+    struct stat old;
+    if (lstat(output->target, &old) == -1)
+        return errno == ENOENT;
+    output->kept = malloc(strlen(output->temporary) + sizeof more);
+    if (output->kept == NULL)
+        return false;
+    strcpy(output->kept, output->temporary);
+    strcat(output->kept, more);
+    return link(output->target, output->kept) == 0 || rename(output->target, output->kept) == 0; /* not every file system has links */
+}
+
+/* Puts the temporary files in their places, up to one that cannot be: some reasons show only now. The last needs no way back. */
+static int place_all(struct output outputs[], size_t count)
+{
+    for (size_t i = 0; i < count; i++) {
+        struct output *output = &outputs[i];
+        if (output->temporary == NULL)
+            continue;
+        output->is_placed = (i + 1 == count || keep_old(output)) && rename(output->temporary, output->target) == 0;
+        if (!output->is_placed)
+            return file_trouble(output->name, "written");
+    }
+    return DONE;
+}
+
+/* Leaves the new file if all is done, else all as it was. Where kept and target are one file still, renaming does nothing. */
+static void settle(struct output *output, int status)
+{
+    if (status != DONE && output->kept != NULL)
+        rename(output->kept, output->target);
+    else if (status != DONE && output->is_placed)
+        unlink(output->target);
+    if (output->kept != NULL)
+        unlink(output->kept);
+    if (output->temporary != NULL && !output->is_placed)
         unlink(output->temporary);
     forget(output);
-    return status;
 }
 
 int close_outputs(struct output outputs[], size_t count, int status)
 {
+    sigset_t before;
     for (size_t i = 0; i < count; i++)
         status = end_writing(&outputs[i], status);
+    hold_signals(&before); /* which would come between two files */
+    if (status == DONE)
+        status = place_all(outputs, count);
     for (size_t i = 0; i < count; i++)
-        status = settle(&outputs[i], status);
+        settle(&outputs[i], status);
+    sigprocmask(SIG_SETMASK, &before, NULL);
     return status;
 }
 

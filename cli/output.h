@@ -12,6 +12,8 @@ struct output {
     const char *name; /* for messages */
     char *target;     /* what the temporary file is to replace, links followed; NULL if there is none */
     char *temporary;
+    bool is_placed; /* the temporary file has the target's name */
+    char *kept;     /* a second name of the file that was there, until all are placed; NULL if there is none */
 };
 
 /* Standard output is what no path, - and /dev/stdout name. */
@@ -28,7 +30,7 @@ bool open_output(const char *path, struct output *output);
 
 /*
  * Puts the files in their places if the work's status is DONE, and gives the status that comes of it. Else, or if writing failed, of which a
- * message tells, nothing is left of them: all are whole before any is put in its place.
+ * message tells, nothing is left of them: all are whole before any is put in its place, and if one cannot be, those before it are taken back.
  */
 enum { MOST_OUTPUTS = 2 }; /* open at a time */
 int close_outputs(struct output outputs[], size_t count, int status);

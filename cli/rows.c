@@ -10,8 +10,8 @@ static int end_rows(const struct rows *rows)
 {
     if (rows->row == DIRGEFLINT_CELL_ROWS)
         return DONE;
-    return bad_input(rows->file, rows->lines.number, "%s has %lu rows so far, and ends here: draw all %d", rows->label, (unsigned long)rows->row,
-                     (int)DIRGEFLINT_CELL_ROWS);
+    return bad_input(rows->file, rows->lines.number, "%s has %lu row%s so far, and ends here: draw all %d", rows->label, (unsigned long)rows->row,
+                     rows->row == 1 ? "" : "s", (int)DIRGEFLINT_CELL_ROWS);
 }
 
 static int begin_rows(struct rows *rows, struct slice rest)
@@ -35,7 +35,8 @@ static int read_dots(const struct rows *rows, struct slice line, uint16_t *row)
         dots = (dots << 1 | (dot.start[0] == '#')) & DIRGEFLINT_MOST_ROW;
     }
     if (line.length != DIRGEFLINT_CELL_DOTS)
-        return bad_input(rows->file, rows->lines.number, "the row has %zu dots: it has to have %d", line.length, (int)DIRGEFLINT_CELL_DOTS);
+        return bad_input(rows->file, rows->lines.number, "the row has %zu dot%s: it has to have %d", line.length, line.length == 1 ? "" : "s",
+                         (int)DIRGEFLINT_CELL_DOTS);
     *row = (uint16_t)dots;
     return DONE;
 }
@@ -44,7 +45,7 @@ static int read_row(struct rows *rows, struct slice line)
 {
     if (rows->to == NULL)
         return bad_input(rows->file, rows->lines.number, "a row before the first heading: write a line such as %s above it%s", rows->drawn->example,
-                         line.start[0] == '#' ? "; if it is a remark, begin it with ;" : "");
+                         line.start[0] == '#' ? "; if it is a comment, begin it with ;" : "");
     if (rows->row == DIRGEFLINT_CELL_ROWS)
         return bad_input(rows->file, rows->lines.number, "a row more than the %s's %d: remove it, or write the next heading above it", rows->drawn->word,
                          (int)DIRGEFLINT_CELL_ROWS);
@@ -67,7 +68,8 @@ static int read_line(struct rows *rows, struct slice line)
     if (slice_is(word, drawn->other))
         return bad_input(rows->file, rows->lines.number, "%s is neither a heading (%s) nor a row of # and .: drawings of %ss are for " PROGRAM " %s", room,
                          drawn->form, drawn->other, drawn->command);
-    return bad_input(rows->file, rows->lines.number, "%s is neither a heading (%s) nor a row of # and .", room, drawn->form);
+    return bad_input(rows->file, rows->lines.number, "%s is neither a heading (%s) nor a row of # and .%s", room, drawn->form,
+                     word.start == line.start ? "" : ": take out the blanks at its start, or write . for them");
 }
 
 static int read_lines(struct rows *rows)

@@ -47,7 +47,8 @@ static int character_line(const char *file, const struct statement *line, const 
 {
     uint32_t cell, colour;
     if (line->count < 3 || line->count > 4 || (line->count == 4 && !slice_is(line->words[3], "blink")))
-        return wrong_form(file, line, "character CELL COLOUR, and then blink or nothing");
+        return wrong_form(file, line, table == NULL ? "character CELL COLOUR, and then blink or nothing"
+                                                     : "character CELL COLOUR or character NAME COLOUR, and then blink or nothing");
     if (cell_part(file, line, table, &cell) != DONE)
         return BAD;
     if (colour_part(file, line, 2, &colour) != DONE)

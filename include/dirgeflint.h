@@ -1,8 +1,9 @@
 /*
  * Dirgeflint: what the PCA84C646 shows on the screen and puts out as pulses.
  *
- * For C99 or C++11, or later. All that a host needs stands in this file; docs/GUIDE.md goes through a screen, a font and a
- * tuning step from nothing. The pages that are named here are the repository's; they are installed below share/doc/dirgeflint too.
+ * For C99 or C++11, or later. All that a host needs stands in this file; docs/GUIDE.md goes through a screen, a font, more glyphs than
+ * cells and a tuning step from nothing. The pages that are named here are the repository's; they are installed below share/doc/dirgeflint
+ * too.
  *
  * Every function takes every input and always returns. None allocates and none keeps state of its own, so all may be called from any
  * thread as long as no two calls share memory that one of them writes.
@@ -385,6 +386,8 @@ dirgeflint_answer dirgeflint_image_to_font(const uint8_t *image, size_t image_le
  *
  * glyphs         the rows of the glyphs, 18 each: row l of glyph g is glyphs[18 * g + l], at most 4095, its leftmost dot in bit 11
  * glyphs_length  how many rows there are, which is 18 times the number of glyphs; 0 is taken
+ *
+ * The room for the font may be longer than the font. Painting and writing take the font itself: give them its 1,116 rows and no more.
  *
  * value   how many cells the glyphs take: 0 without glyphs, at most 62.
  * Refuses 16: glyphs_length not a multiple of 18, more than 256 glyphs, or a row above 4095

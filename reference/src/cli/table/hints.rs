@@ -108,6 +108,29 @@ fn remarks() -> Vec<Case> {
     hinted.chain([later, naming(glyphs, ";")]).collect()
 }
 
+/// Headings and rows that do not begin their lines, blanks for unlit dots, and a drawing that ends after a row or a dot.
+fn lines() -> Vec<Case> {
+    let whole = drawn("A", "............");
+    let glyphs = |name: &str, drawings: String, said: &str| {
+        naming(pack(&format!("glyphs: {name}"), "g.txt", drawings.as_bytes(), To::Old, To::Old), said)
+    };
+    let cells = |name: &str, drawing: &str, said: &str| {
+        naming(font(&format!("cells: {name}"), "d.txt", drawing.as_bytes(), To::Old), said)
+    };
+    vec![
+        glyphs("a heading after blanks", format!("  {whole}"), "blanks at its start"),
+        glyphs("a row after a tab", whole.replacen("\n.", "\n\t.", 1), "blanks at its start"),
+        glyphs("blanks for unlit dots", whole.replacen("............", "     ##     ", 1), "write . for them"),
+        glyphs("one row", "glyph A\n............\n".to_string(), "has 1 row so far"),
+        glyphs("no row", "glyph A\n".to_string(), "has 0 rows so far"),
+        glyphs("one dot", "glyph A\n#\n".to_string(), "has 1 dot:"),
+        glyphs("no name", whole.replacen("glyph A", "glyph", 1), "one word"),
+        cells("a heading after blanks", " cell 1\n", "blanks at its start"),
+        cells("one row", "cell 1\n############\n", "has 1 row so far"),
+        cells("two rows", "cell 1\n############\n############\ncell 2\n", "has 2 rows so far"),
+    ]
+}
+
 /// Drawings of one sort where the other is due.
 fn sorts() -> Vec<Case> {
     let glyphs = font("glyphs where cells are due", "g.txt", SAMPLE_GLYPHS, To::Old);
@@ -140,5 +163,5 @@ fn texts() -> Vec<Case> {
 }
 
 pub fn all() -> Vec<Case> {
-    [marks(), ranges(), remarks(), sorts(), texts()].concat()
+    [marks(), ranges(), remarks(), lines(), sorts(), texts()].concat()
 }

@@ -51,6 +51,22 @@ fn places() -> Vec<Case> {
     ]
 }
 
+/// A name that is empty is no name: wrong usage, before any file is looked at.
+fn no_name() -> Vec<Case> {
+    [
+        ("font", "font d.txt"),
+        ("pack", "pack g.txt"),
+        ("show", "show f.hex"),
+        ("paint", "paint s --font f.hex"),
+        ("play", "play e"),
+    ]
+    .iter()
+    .map(|(command, words)| {
+        misused(case(&format!("output: an empty name for {command}"), words).word("-o").word(""), command)
+    })
+    .collect()
+}
+
 fn trouble() -> Vec<Case> {
     let failed = |name: &str, output: &str| {
         let case = font(name, output).status(2);
@@ -62,7 +78,6 @@ fn trouble() -> Vec<Case> {
         failed("a link that goes in a circle", "link").thing("link", link("link")),
         failed("a link into a folder that is not there", "link").thing("link", link("none/new")),
         failed("a full device", "/dev/full"),
-        font("an empty name", "").status(2).said(Said::IfNotDone),
         case("output: a refusal and a pipe", "font d.txt -o /dev/stdout")
             .file("d.txt", "cell 62\n")
             .status(1)
@@ -145,9 +160,10 @@ fn two_troubles() -> Vec<Case> {
         failed("the text on a full device", "/dev/full", "b", "/dev/full"),
         failed("the table's link goes in a circle", "a", "circle", "circle").thing("circle", link("circle")),
         failed("the text's link goes nowhere", "nowhere", "b", "nowhere").thing("nowhere", link("none/new")),
-        there("an empty name for the text", "", "b").said(Said::IfNotDone),
-        there("an empty name for the table", "a", "").said(Said::IfNotDone),
-        there("an empty name for the table, the text new", "new", "").said(Said::IfNotDone),
+        one("an empty name for the text", "", "b"),
+        one("an empty name for the table", "a", ""),
+        one("an empty name for the table, the text new", "new", ""),
+        one("two empty names", "", ""),
         failed("a name of 256 characters for the table", "a", &"n".repeat(256), &"n".repeat(256)),
         failed("a name of 256 characters for the table, the text new", "new", &"n".repeat(256), &"n".repeat(256)),
         failed("a name of 256 characters for the text", &"n".repeat(256), "b", &"n".repeat(256)),
@@ -200,5 +216,5 @@ fn full() -> Vec<Case> {
 }
 
 pub fn all() -> Vec<Case> {
-    [places(), trouble(), two_places(), two_troubles(), full()].concat()
+    [places(), no_name(), trouble(), two_places(), two_troubles(), full()].concat()
 }

@@ -261,10 +261,8 @@ fn orders() -> Vec<Case> {
         dashed("a file that begins with a dash", "check -- -a.hex", "-a.hex"),
         dashed("an option before that", "check --whole -- --", "--"),
         dashed("a file that looks like a call for help", "check -- -h", "-h"),
-        case("an option with an empty value", "paint screen --font=")
-            .file("screen", &screen[..])
-            .status(2)
-            .said(Said::IfNotDone),
+        misused(case("an option with an empty value", "paint screen --font=").file("screen", &screen[..]), "paint"),
+        misused(case("an empty table", "paint screen --font=font.hex --table=").file("screen", &screen[..]), "paint"),
         case("standard input after the options", "check --")
             .word("-")
             .input(SAMPLE_TEXT)
