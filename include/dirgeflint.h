@@ -97,7 +97,7 @@ static inline const char *dirgeflint_reason(uint32_t number)
     case DIRGEFLINT_TOO_MANY_CLOCKS: return "more clocks than 16,384, or than the room holds";
     case DIRGEFLINT_BAD_CLOCK: return "the channel is above 7, or the clock is outside the channel's period";
     case DIRGEFLINT_BAD_GLYPHS: return "there must be 18 rows for each glyph, at most 256 glyphs, and no row above 4095";
-    case DIRGEFLINT_TOO_MANY_PATTERNS: return "more than 62 of the glyphs differ, and a font has 62 cells";
+    case DIRGEFLINT_TOO_MANY_PATTERNS: return "there are more than 62 different glyphs, and a font has 62 cells";
     default: return "no such number";
     }
 }
@@ -384,15 +384,18 @@ dirgeflint_answer dirgeflint_image_to_font(const uint8_t *image, size_t image_le
  * empty glyph takes a cell like any other. No font shows the same glyphs with fewer cells. A screen whose characters are the cells of
  * glyphs, painted with this font, shows the glyphs as they were drawn.
  *
+ * The font may be packed into a larger room, but dirgeflint_paint and dirgeflint_hex_write want its own 1,116 rows: give them 1,116
+ * (DIRGEFLINT_FONT_ROWS) as font_length, and not the room's length.
+ *
  * glyphs         the rows of the glyphs, 18 each: row l of glyph g is glyphs[18 * g + l], at most 4095, its leftmost dot in bit 11
  * glyphs_length  how many rows there are, which is 18 times the number of glyphs; 0 is taken
- *
- * The room for the font may be longer than the font. Painting and writing take the font itself: give them its 1,116 rows and no more.
  *
  * value   how many cells the glyphs take: 0 without glyphs, at most 62.
  * Refuses 16: glyphs_length not a multiple of 18, more than 256 glyphs, or a row above 4095
  *         17: more than 62 different glyphs
  *          6: font_length below 1,116, or cells_length below the number of glyphs
+ *
+ * On a set a cell has one row more, which is hidden (S51): glyphs that would differ only there share a cell.
  */
 dirgeflint_answer dirgeflint_pack(const uint16_t *glyphs, size_t glyphs_length, uint16_t *font, size_t font_length, uint8_t *cells,
                                   size_t cells_length);

@@ -1,6 +1,7 @@
 -- The cells of a screen: document 01, 'From words to dots', first paragraph and the place of the first cell.
--- A screen is a list of kinds, what its words are. It is read from the first on with a pen, which has the place, the size and the
--- background of what comes next. Each character and each space takes a cell there. The list of cells is all that a screen's dots depend on.
+-- A screen is a list of kinds: those of its words, or of items that name glyphs.
+-- It is read from the first on with a pen, which has the place, the size and the background of what comes next. Each character and each space
+-- takes a cell there. The list of cells is all that a screen's dots depend on.
 -- Assumes nothing.
 use Prim.Native.Nat.{ℕ, _+_, _*_}
 use mathlib.Core.List.{List, [], _∷_, _++_}

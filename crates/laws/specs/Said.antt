@@ -1,4 +1,4 @@
--- What a call that can refuse tells its caller, in the numbers of document 01, 'Numbers for bad input'.
+-- What a call that can refuse tells its caller, in the numbers of the customer's documents.
 -- Each answer is an enum of its own crate; that crate's `said` gives this record for each of its cases, and promises go through it.
 -- Assumes nothing.
 use Prim.Native.Nat.{ℕ}

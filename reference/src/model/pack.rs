@@ -67,7 +67,7 @@ pub fn pack(rows: &[u16], font: &mut [u16], cells: &mut [u8]) -> Result<u32, Ref
     Ok(patterns.len() as u32)
 }
 
-/// The first dots of a line of a screen whose characters name drawn glyphs, made of the glyphs themselves.
+/// The first dots of a line of a screen of glyphs, from their drawings: no font comes into it.
 pub fn picture(screen: &[Kind], glyphs: &[DrawnGlyph], settings: &Settings, frame: u32, line: u32, room: &mut [u8]) {
     let cells = display::cells_of(screen, settings);
     display::lay(&cells, &|glyph, row, column| glyphs[glyph].dots[row][column], settings, frame, line, room);

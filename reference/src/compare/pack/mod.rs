@@ -1,8 +1,8 @@
 //! The packer, and the pictures that packed screens show.
 //!
 //! First a glyph that differs from all others in one dot, at each of the 216 places; then refusals alone, in pairs and
-//! threes; then sets of glyphs drawn at random. With every eighth of these go lines of a screen whose characters name
-//! its glyphs: the library paints them with each glyph's cell in its place, the model makes them of the glyphs.
+//! threes; then sets of glyphs drawn at random. With every eighth of these go lines of a screen of its glyphs: the
+//! library paints it by their cells, the model draws it by the glyphs, and both have to be the same picture.
 
 mod sets;
 
@@ -235,7 +235,7 @@ impl Screen {
         self.words.iter().zip(&self.names).map(|(&word, &name)| named(word, name)).collect()
     }
 
-    /// The words with each glyph's cell in its place.
+    /// The words by which a painter shows the screen, given the cells.
     fn packed(&self, cells: &[u8]) -> Vec<u16> {
         let packed = |word: u16, name: usize| match kind(word) {
             Kind::Character { .. } => 16 * u16::from(cells[name]) + word % 16,
