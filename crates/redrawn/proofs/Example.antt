@@ -25,9 +25,9 @@ use Rattle.packer.specs.Glyphs.{glyphsIn, samePattern, isFirst, patternsBefore,
 use Rattle.packer.specs.Packing.{areWhole, areGlyphs, answerOf}
 use Rattle.packer.proofs.Dots.{same-dots, dots-same}
 use Rattle.packer.proofs.Patterns.{none-before, first-where, cell-first, like-cell}
-use Rattle.sharing.specs.Sharing.{Accepted}
+use Rattle.sharing.specs.Sharing.{Accepted, cellGiven}
 use Rattle.sharing.proofs.Shared.{given-is}
-use Rattle.redrawn.specs.Screen.{isItem, areItems, isScreen}
+use Rattle.redrawn.specs.Screen.{isItem, areItems, isScreen, wordsFor}
 use Rattle.redrawn.specs.Picture.{answerBy}
 use Rattle.redrawn.specs.Example.{count, number, glyphs, different, items, settings, line, Examples}
 use Rattle.redrawn.proofs.Same.{packed-pictures}
@@ -124,10 +124,11 @@ pub example : Examples
 unfolding answerBy
 example font cells room places =
     let told = packed font cells room places in
+    let same = packed-pictures glyphs font cells different told items is-screen in
     record {
       packed = told;
       shared = given-is glyphs font cells different told 63 (omega (arith, how-many)) ∙ last-cell;
       screen = is-screen;
       drawn = drawn;
-      painted = packed-pictures glyphs font cells different told items is-screen .painted settings 0 (record { 0 = 0 }) (record { 0 = 14 }) (replicate 16 7) refl ∙ ap (λ (l : List ℕ). l ++ (7 ∷ 7 ∷ [])) drawn;
+      painted = same .painted (wordsFor (cellGiven glyphs font cells) items) (same .words) (same .say) settings 0 (record { 0 = 0 }) (record { 0 = 14 }) (replicate 16 7) refl ∙ ap (λ (l : List ℕ). l ++ (7 ∷ 7 ∷ [])) drawn;
     }
