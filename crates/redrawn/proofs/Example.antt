@@ -146,4 +146,4 @@ example font cells room places =
 
 pub too-many : TooMany
 unfolding answerOf
-too-many rows places = rw (are-glyphs 62 (omega arith), patterns 62 (omega arith))
+too-many room places = rw (are-glyphs 62 (omega arith), patterns 62 (omega arith))
