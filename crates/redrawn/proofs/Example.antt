@@ -1,7 +1,7 @@
 -- The example. Its first 62 glyphs differ, as the bits of their numbers do, and the last three do not: so there are 62 patterns. Its line is computed from
--- the glyphs, and painted by the theorem.
+-- the glyphs, and painted by the theorem. The same laws count the 63 patterns of the glyphs that are refused.
 -- Assumes nothing.
-use Prim.Native.Nat.{ℕ, zero, suc, _+_, _*_, _/_, _<_, _≤_}
+use Prim.Native.Nat.{ℕ, zero, suc, _+_, _*_, _/_, _<_, _≤_, min}
 use mathlib.Core.Path.{_≡_, refl, sym, ap, _∙_}
 use mathlib.Core.Bool.{Bool, true}
 use mathlib.Core.List.{List, [], _∷_, _++_}
@@ -25,85 +25,96 @@ use Rattle.packer.specs.Glyphs.{glyphsIn, samePattern, isFirst, patternsBefore,
 use Rattle.packer.specs.Packing.{areWhole, areGlyphs, answerOf}
 use Rattle.packer.proofs.Dots.{same-dots, dots-same}
 use Rattle.packer.proofs.Patterns.{none-before, first-where, cell-first, like-cell}
-use Rattle.sharing.specs.Sharing.{Accepted}
+use Rattle.sharing.specs.Sharing.{Accepted, cellGiven}
 use Rattle.sharing.proofs.Shared.{given-is}
-use Rattle.redrawn.specs.Screen.{isItem, areItems, isScreen}
+use Rattle.redrawn.specs.Screen.{isItem, areItems, isScreen, wordsFor}
 use Rattle.redrawn.specs.Picture.{answerBy}
-use Rattle.redrawn.specs.Example.{count, number, glyphs, different, items, settings, line, Examples}
+use Rattle.redrawn.specs.Example.{count, glyphsTo, glyphs, different, items, settings, line, Examples, TooMany}
 use Rattle.redrawn.proofs.Same.{packed-pictures}
 
-rows : length glyphs ≡ cellRows * count
-rows = length-tabulate (cellRows * count) (λ (i : ℕ). number (i / cellRows))
-
-how-many : glyphsIn glyphs ≡ count
-how-many = omega (arith, rows)
-
-each-row : (k : ℕ) → k < length glyphs → getD glyphs k 0 ≤ mostRow
-each-row k l = omega (arith, getD-tabulate (cellRows * count) (λ (i : ℕ). number (i / cellRows)) k 0 (omega (arith, rows)))
-
-are-glyphs : areGlyphs glyphs ≡ true
-unfolding areGlyphs areWhole
-are-glyphs = rw (rows, within-each mostRow glyphs each-row)
-
-row-is : (g l : ℕ) → g < count → l < cellRows → rowOf glyphs g l ≡ number g
-row-is g l at row = getD-tabulate (cellRows * count) (λ (i : ℕ). number (i / cellRows)) (cellRows * g + l) 0 (omega arith) ∙ omega arith
-
-alike : (g h : ℕ) → g < count → h < count → number g ≡ number h → samePattern glyphs g h ≡ true
-alike g h at there e =
-    dots-same glyphs g h (λ l j row column. ap (λ (r : ℕ). bitSet r j) (row-is g l at row ∙ e ∙ sym (row-is h l there row)))
-
--- the last six columns of a row tell the numbers below 62 apart: they give the number back
+-- the last six columns of a row tell the numbers below 64 apart: they give the number back
 from-bits : (a b c d e f : Bool) → ℕ
 from-bits a b c d e f = pick a 32 0 + pick b 16 0 + pick c 8 0 + pick d 4 0 + pick e 2 0 + pick f 1 0
 
 back : ℕ → ℕ
 back row = from-bits (bitSet row 6) (bitSet row 7) (bitSet row 8) (bitSet row 9) (bitSet row 10) (bitSet row 11)
 
-computed : upto 62 (λ g. eqb (back g) g) ≡ true
+computed : upto count (λ g. eqb (back g) g) ≡ true
 unfolding back from-bits
 computed = refl
-
-back-is : (g : ℕ) → g < 62 → back (rowOf glyphs g 0) ≡ g
-back-is g l = ap back (row-is g 0 (omega arith) (omega arith) ∙ omega arith) ∙ eqb-true (back g) g (upto-at 62 (λ g. eqb (back g) g) computed g l)
-
-unlike : (g h : ℕ) → h < g → g < 62 → samePattern glyphs g h ≡ true → ⊥
-unfolding back
-unlike g h before at like =
-    let same : back (rowOf glyphs g 0) ≡ back (rowOf glyphs h 0) = λ i. from-bits (dot 6 (omega arith) i) (dot 7 (omega arith) i) (dot 8 (omega arith) i) (dot 9 (omega arith) i) (dot 10 (omega arith) i) (dot 11 (omega arith) i) in
-    omega (arith, same, back-is g at, back-is h (omega arith))
-  where
-    dot : (j : ℕ) → j < cellColumns → fontDot glyphs g 0 j ≡ fontDot glyphs h 0 j
-    dot j column = same-dots glyphs g h like 0 j (omega arith) column
-
-is-first : (g : ℕ) → g < 62 → isFirst glyphs g ≡ true
-is-first g at = first-where glyphs g (λ h before like. unlike g h before at like)
 
 ones : (n : ℕ) → countOf n (λ (g : ℕ). true) ≡ n
 unfolding countOf
 ones zero = refl
 ones (suc n) = omega (arith, ones n)
 
-least : (n : ℕ) → n ≤ 62 → n ≤ patternsBefore glyphs n
-unfolding patternsBefore
-least n le = omega (arith, ones n, count-weaker (λ (g : ℕ). true) (isFirst glyphs) n (λ g l e. is-first g (omega arith)))
+-- glyphs with numbers up to `most`: the first `most + 1` of them differ, and each other is as the last of those
+module _ (most : ℕ) (fits : most < count) where
+  abbrev drawings : List ℕ
+  drawings = glyphsTo most
 
--- 62 patterns in all, and 61 before the last of them
-patterns : patternsIn glyphs ≡ different
-unfolding patternsBefore
-patterns =
-    let most = count-apart number 62 (isFirst glyphs) count (λ g l e. omega arith)
-    (λ h g before at e first same. none-before glyphs g h first before (alike g h at (omega arith) (sym same))) in
-    ap (patternsBefore glyphs) how-many ∙ omega (arith, least 62 (omega arith), count-before (isFirst glyphs) 62 count (omega arith), most)
+  abbrev number : ℕ → ℕ
+  number g = min g most
 
-last-cell : cellFor glyphs 63 ≡ 61
-unfolding patternsBefore
-last-cell =
-    like-cell glyphs 63 61 (alike 63 61 (omega arith) (omega arith) refl) ∙ cell-first glyphs 61 (is-first 61 (omega arith))
-    ∙ omega (arith, least 61 (omega arith), count-most (isFirst glyphs) 61)
+  rows : length drawings ≡ cellRows * count
+  rows = length-tabulate (cellRows * count) (λ (i : ℕ). number (i / cellRows))
+
+  how-many : glyphsIn drawings ≡ count
+  how-many = omega (arith, rows)
+
+  each-row : (k : ℕ) → k < length drawings → getD drawings k 0 ≤ mostRow
+  each-row k l = omega (arith, getD-tabulate (cellRows * count) (λ (i : ℕ). number (i / cellRows)) k 0 (omega (arith, rows)))
+
+  are-glyphs : areGlyphs drawings ≡ true
+  unfolding areGlyphs areWhole
+  are-glyphs = rw (rows, within-each mostRow drawings each-row)
+
+  row-is : (g l : ℕ) → g < count → l < cellRows → rowOf drawings g l ≡ number g
+  row-is g l at row = getD-tabulate (cellRows * count) (λ (i : ℕ). number (i / cellRows)) (cellRows * g + l) 0 (omega arith) ∙ omega arith
+
+  alike : (g h : ℕ) → g < count → h < count → number g ≡ number h → samePattern drawings g h ≡ true
+  alike g h at there e =
+      dots-same drawings g h (λ l j row column. ap (λ (r : ℕ). bitSet r j) (row-is g l at row ∙ e ∙ sym (row-is h l there row)))
+
+  back-is : (g : ℕ) → g ≤ most → back (rowOf drawings g 0) ≡ g
+  back-is g le = ap back (row-is g 0 (omega arith) (omega arith) ∙ omega arith) ∙ eqb-true (back g) g (upto-at count (λ g. eqb (back g) g) computed g (omega arith))
+
+  unlike : (g h : ℕ) → h < g → g ≤ most → samePattern drawings g h ≡ true → ⊥
+  unfolding back
+  unlike g h before le like =
+      let same : back (rowOf drawings g 0) ≡ back (rowOf drawings h 0) = λ i. from-bits (dot 6 (omega arith) i) (dot 7 (omega arith) i) (dot 8 (omega arith) i) (dot 9 (omega arith) i) (dot 10 (omega arith) i) (dot 11 (omega arith) i) in
+      omega (arith, same, back-is g le, back-is h (omega arith))
+    where
+      dot : (j : ℕ) → j < cellColumns → fontDot drawings g 0 j ≡ fontDot drawings h 0 j
+      dot j column = same-dots drawings g h like 0 j (omega arith) column
+
+  is-first : (g : ℕ) → g ≤ most → isFirst drawings g ≡ true
+  is-first g le = first-where drawings g (λ h before like. unlike g h before le like)
+
+  least : (n : ℕ) → n ≤ most + 1 → n ≤ patternsBefore drawings n
+  unfolding patternsBefore
+  least n le = omega (arith, ones n, count-weaker (λ (g : ℕ). true) (isFirst drawings) n (λ g l e. is-first g (omega arith)))
+
+  patterns : patternsIn drawings ≡ most + 1
+  unfolding patternsBefore
+  patterns =
+      let at-most = count-apart number (most + 1) (isFirst drawings) count (λ g l e. omega arith)
+      (λ h g before at e first same. none-before drawings g h first before (alike g h at (omega arith) (sym same))) in
+      ap (patternsBefore drawings) how-many ∙ omega (arith, least (most + 1) (omega arith), count-before (isFirst drawings) (most + 1) count (omega arith), at-most)
+
+  -- `most` patterns appear before that of the last glyph
+  last-cell : cellFor drawings 63 ≡ most
+  unfolding patternsBefore
+  last-cell =
+      like-cell drawings 63 most (alike 63 most (omega arith) (omega arith) (omega arith)) ∙ cell-first drawings most (is-first most (omega arith))
+      ∙ omega (arith, least most (omega arith), count-most (isFirst drawings) most)
+
+abbrev below : 61 < count
+below = omega arith
 
 is-screen : isScreen (glyphsIn glyphs) items ≡ true
 unfolding isItem areItems
-is-screen = rw how-many
+is-screen = rw (how-many 61 below)
 
 -- its line, computed from the glyphs: by the one row that it shows
 by-row : ℕ → List ℕ
@@ -114,20 +125,25 @@ unfolding by-row tabulate dotOf dotAt firstShown cellHas cellsFrom kindCell afte
 drawn =
     let shown : lineOf items (fontDot glyphs) settings 0 (record { 0 = 0 }) (record { 0 = 14 }) ≡ by-row (rowOf glyphs 63 0) = refl in
     let computed : by-row 61 ≡ line = refl in
-    shown ∙ ap by-row (row-is 63 0 (omega arith) (omega arith)) ∙ computed
+    shown ∙ ap by-row (row-is 61 below 63 0 (omega arith) (omega arith)) ∙ computed
 
 packed : (font cells : List ℕ) → fontRows ≤ length font → count ≤ length cells → Accepted glyphs font cells different
 unfolding answerOf
-packed font cells room places = rw (are-glyphs, patterns, how-many, le-leb fontRows (length font) room, le-leb count (length cells) places)
+packed font cells room places = rw (are-glyphs 61 below, patterns 61 below, how-many 61 below, le-leb fontRows (length font) room, le-leb count (length cells) places)
 
 pub example : Examples
 unfolding answerBy
 example font cells room places =
     let told = packed font cells room places in
+    let same = packed-pictures glyphs font cells different told items is-screen in
     record {
       packed = told;
-      shared = given-is glyphs font cells different told 63 (omega (arith, how-many)) ∙ last-cell;
+      shared = given-is glyphs font cells different told 63 (omega (arith, how-many 61 below)) ∙ last-cell 61 below;
       screen = is-screen;
       drawn = drawn;
-      painted = packed-pictures glyphs font cells different told items is-screen .painted settings 0 (record { 0 = 0 }) (record { 0 = 14 }) (replicate 16 7) refl ∙ ap (λ (l : List ℕ). l ++ (7 ∷ 7 ∷ [])) drawn;
+      painted = same .painted (wordsFor (cellGiven glyphs font cells) items) (same .words) (same .say) settings 0 (record { 0 = 0 }) (record { 0 = 14 }) (replicate 16 7) refl ∙ ap (λ (l : List ℕ). l ++ (7 ∷ 7 ∷ [])) drawn;
     }
+
+pub too-many : TooMany
+unfolding answerOf
+too-many room places = rw (are-glyphs 62 (omega arith), patterns 62 (omega arith))

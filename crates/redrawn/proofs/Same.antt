@@ -1,5 +1,5 @@
--- The word for an item is one of 10 bits, and reads back as the item with the glyph's cell in its place. That item does the same as the one with the glyph,
--- by the dots that the cell has; so the cells of the two screens are alike, and `same-line` of display's Corollaries gives the line.
+-- The word for an item is one of 10 bits, and reads back as the item with the cell for the glyph. That item does the same as the one with the glyph, by the
+-- dots that the cell has; so whatever words say those items, the cells of the two screens are alike, and `same-line` of display's Corollaries gives the line.
 -- Assumes nothing.
 use Prim.Native.Nat.{ℕ, _+_, _-_, _*_, _/_, _%_, _<_, _≤_}
 use mathlib.Core.Path.{_≡_, refl, sym, ap, _∙_}
@@ -176,28 +176,30 @@ module _ (glyphs font : List ℕ) (cell : ℕ → ℕ) (by : ShownBy glyphs font
     are-words : areWords (wordsFor cell items) ≡ true
     are-words = rw (length-map items (wordFor cell), sixty-four) (words-within items each)
 
-    answers : (s : Settings) (line : Lines) (width : Dots) (room : ℕ) → answerOf (wordsFor cell items) font s line width room ≡ answerBy s line width room
-    unfolding answerOf answerBy
-    answers s line width room = rw (are-words, by .font-is)
+    -- any words that say the items
+    module _ (ws : List ℕ) (are : areWords ws ≡ true) (says : kindsOf ws ≡ map (inCell cell) items) where
+      answers : (s : Settings) (line : Lines) (width : Dots) (room : ℕ) → answerOf ws font s line width room ≡ answerBy s line width room
+      unfolding answerOf answerBy
+      answers s line width room = rw (are, by .font-is)
 
-    -- the line of the words is that of the glyphs
-    same : (s : Settings) (frame : ℕ) (line : Lines) (width : Dots)
-        → lineOf (kindsOf (wordsFor cell items)) (fontDot font) s frame line width ≡ lineOf items (fontDot glyphs) s frame line width
-    same s frame line width =
-        ap (λ (kinds : List Kind). lineOf kinds (fontDot font) s frame line width) (words-say items each)
-        ∙ same-line (map (inCell cell) items) items (fontDot font) (fontDot glyphs) s frame line width
-        (alike-cells (fontDot font) (fontDot glyphs) (firstDot s) (rowPen (firstDot s) (firstLine s) 1 (s .colour)) (map (inCell cell) items) items (same-kinds items each))
+      -- the line of the words is that of the glyphs
+      same : (s : Settings) (frame : ℕ) (line : Lines) (width : Dots)
+          → lineOf (kindsOf ws) (fontDot font) s frame line width ≡ lineOf items (fontDot glyphs) s frame line width
+      same s frame line width =
+          ap (λ (kinds : List Kind). lineOf kinds (fontDot font) s frame line width) says
+          ∙ same-line (map (inCell cell) items) items (fontDot font) (fontDot glyphs) s frame line width
+          (alike-cells (fontDot font) (fontDot glyphs) (firstDot s) (rowPen (firstDot s) (firstLine s) 1 (s .colour)) (map (inCell cell) items) items (same-kinds items each))
 
-    paints : (s : Settings) (frame : ℕ) (line : Lines) (width : Dots) (out : List ℕ) → answerBy s line width (length out) .number ≡ 0
-        → leftBy (wordsFor cell items) font s frame line width out ≡ lineOf items (fontDot glyphs) s frame line width ++ drop (width .0) out
-    unfolding leftBy
-    paints s frame line width out e =
-        rw (answers s line width (length out), eq-eqb _ _ e) (ap (λ (l : List ℕ). l ++ drop (width .0) out) (same s frame line width))
+      paints : (s : Settings) (frame : ℕ) (line : Lines) (width : Dots) (out : List ℕ) → answerBy s line width (length out) .number ≡ 0
+          → leftBy ws font s frame line width out ≡ lineOf items (fontDot glyphs) s frame line width ++ drop (width .0) out
+      unfolding leftBy
+      paints s frame line width out e =
+          rw (answers s line width (length out), eq-eqb _ _ e) (ap (λ (l : List ℕ). l ++ drop (width .0) out) (same s frame line width))
 
-    leaves : (s : Settings) (frame : ℕ) (line : Lines) (width : Dots) (out : List ℕ) → (answerBy s line width (length out) .number ≡ 0 → ⊥)
-        → leftBy (wordsFor cell items) font s frame line width out ≡ out
-    unfolding leftBy
-    leaves s frame line width out ne = rw (answers s line width (length out), ne-eqb _ _ ne)
+      leaves : (s : Settings) (frame : ℕ) (line : Lines) (width : Dots) (out : List ℕ) → (answerBy s line width (length out) .number ≡ 0 → ⊥)
+          → leftBy ws font s frame line width out ≡ out
+      unfolding leftBy
+      leaves s frame line width out ne = rw (answers s line width (length out), ne-eqb _ _ ne)
 
     pub same-picture : SamePicture glyphs font cell items
     same-picture = record { words = are-words; say = words-say items each; answer = answers; painted = paints; untouched = leaves }

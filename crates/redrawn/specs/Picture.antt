@@ -1,5 +1,5 @@
--- The same picture: document 02, M-100. Take a screen whose characters name drawn glyphs. Painted with each glyph's cell in its place, it is the picture
--- made of the glyphs themselves. Said of every accepted call of the packer; and first of any font and any cells that show the glyphs, however they were found.
+-- A screen can be drawn in two ways, by its glyphs, or by words that have their cells for codes; the lines are the same: document 02, M-100. Said of every
+-- accepted call of the packer; and first of any font and any cells that show the glyphs, however they were found.
 -- Drawn glyphs lie in a list of rows as the cells of a font do, 18 rows each, so `fontDot glyphs` draws them.
 -- Assumes nothing.
 use Prim.Native.Nat.{ℕ}
@@ -31,19 +31,22 @@ answerBy s line width room =
     (refused 2 0)
     (pick (not (onScreen line width)) (refused 5 0) (pick (ltb room (width .0)) (refused 6 0) (accepted 0))))
 
--- what painting leaves of a screen of glyphs, by the words for its items
+-- what painting leaves of a screen of glyphs, by whatever words say its items, with each glyph's cell for its code
 pub record SamePicture (glyphs font : List ℕ) (cell : ℕ → ℕ) (items : List Kind) : Type 0 where
-  -- they are words, and say the items, with each glyph's cell in its place
+  -- there are such words: those of `wordsFor`. Where an item is an end there are others, as 1023 in place of 1009
   pub words : areWords (wordsFor cell items) ≡ true
   pub say : kindsOf (wordsFor cell items) ≡ map (inCell cell) items
-  -- so no call is refused for them, nor for the font
-  pub answer : (s : Settings) (line : Lines) (width : Dots) (room : ℕ) → answerOf (wordsFor cell items) font s line width room ≡ answerBy s line width room
-  -- an accepted call leaves the line of the glyphs themselves, and what was past the width
-  pub painted : (s : Settings) (frame : ℕ) (line : Lines) (width : Dots) (out : List ℕ) → answerBy s line width (length out) .number ≡ 0
-      → leftBy (wordsFor cell items) font s frame line width out ≡ lineOf items (fontDot glyphs) s frame line width ++ drop (width .0) out
+  -- no call is refused for them, nor for the font
+  pub answer : (ws : List ℕ) → areWords ws ≡ true → kindsOf ws ≡ map (inCell cell) items
+      → (s : Settings) (line : Lines) (width : Dots) (room : ℕ) → answerOf ws font s line width room ≡ answerBy s line width room
+  -- an accepted call leaves the line that the glyphs' own dots give, and what was past the width
+  pub painted : (ws : List ℕ) → areWords ws ≡ true → kindsOf ws ≡ map (inCell cell) items
+      → (s : Settings) (frame : ℕ) (line : Lines) (width : Dots) (out : List ℕ) → answerBy s line width (length out) .number ≡ 0
+      → leftBy ws font s frame line width out ≡ lineOf items (fontDot glyphs) s frame line width ++ drop (width .0) out
   -- a refused one leaves all as it was
-  pub untouched : (s : Settings) (frame : ℕ) (line : Lines) (width : Dots) (out : List ℕ) → (answerBy s line width (length out) .number ≡ 0 → ⊥)
-      → leftBy (wordsFor cell items) font s frame line width out ≡ out
+  pub untouched : (ws : List ℕ) → areWords ws ≡ true → kindsOf ws ≡ map (inCell cell) items
+      → (s : Settings) (frame : ℕ) (line : Lines) (width : Dots) (out : List ℕ) → (answerBy s line width (length out) .number ≡ 0 → ⊥)
+      → leftBy ws font s frame line width out ≡ out
 
 -- it is so of every screen of glyphs that a font shows
 abbrev pub SamePictures : Type 0

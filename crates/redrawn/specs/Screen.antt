@@ -1,5 +1,6 @@
--- A screen whose characters name drawn glyphs, and the words that show it by the cells of a font: document 02, M-100.
+-- A screen of drawn glyphs, and the words that show it by the cells of a font: document 02, M-100.
 -- Its items are kinds, as those of words are, but that the code of a character is the number of a glyph.
+-- A cell is here one of a font's 62, not a place on the screen.
 -- Assumes nothing.
 use Prim.Native.Nat.{ℕ, _+_, _-_, _*_, _/_, _%_, _≤_}
 use mathlib.Core.Path.{_≡_}
@@ -58,7 +59,7 @@ wordFor cell item = wordOf (codeFor cell item) (attributeFor item)
 abbrev pub wordsFor : (ℕ → ℕ) → List Kind → List ℕ
 wordsFor cell items = map (wordFor cell) items
 
--- an item with the glyph's cell in the glyph's place
+-- an item with a glyph's cell for the glyph
 unfoldable pub inCell : (ℕ → ℕ) → Kind → Kind
 inCell cell (Character colour glyph blink) = Character colour (cell glyph) blink
 inCell cell (Space background) = Space background

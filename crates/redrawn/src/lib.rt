@@ -1,1 +1,1 @@
-// Theorems alone: a screen of drawn glyphs, painted with each glyph's cell in its place, is the picture made of the glyphs themselves.
+// Theorems alone: a screen can be drawn by its glyphs, or by words that have their cells for codes, and the lines are the same.

@@ -1,5 +1,5 @@
--- What the packer's cells are worth: document 02, M-100. Each statement is about every call that is accepted, and about what that call gives: a font, and
--- a cell for each glyph. proofs/ has why they hold.
+-- What the packer's cells are worth: document 02, M-100. Each statement but the last, which is about 17, is about every call that is accepted, and about what
+-- that call gives: a font, and a cell for each glyph. proofs/ has why they hold.
 -- Assumes nothing.
 use Prim.Native.Nat.{ℕ, _<_, _≤_}
 use mathlib.Core.Path.{_≡_}
@@ -26,13 +26,13 @@ fontGiven glyphs font cells = take fontRows (fontLeft glyphs font cells)
 abbrev pub cellGiven : List ℕ → List ℕ → List ℕ → ℕ → ℕ
 cellGiven glyphs font cells g = getD (cellsLeft glyphs font cells) g 0
 
--- two glyphs share a cell exactly if all their dots agree
+-- one cell for two glyphs: where they agree in each dot, and only there
 abbrev pub Shares : Type 0
 Shares =
     (glyphs font cells : List ℕ) (used : ℕ) → Accepted glyphs font cells used
     → (g h : ℕ) → g < glyphsIn glyphs → h < glyphsIn glyphs → (cellGiven glyphs font cells g ≡ cellGiven glyphs font cells h) ↔ SameDots glyphs g h
 
--- cells of a list show the glyphs, each by the cell that it is assigned, dot by dot
+-- cells of a list show the glyphs, each by the cell that it is assigned, dot by dot; cells past the list's end are empty
 abbrev pub Shows : List ℕ → List ℕ → (ℕ → ℕ) → Type 0
 Shows glyphs list cell =
     (g l j : ℕ) → g < glyphsIn glyphs → l < cellRows → j < cellColumns → fontDot list (cell g) l j ≡ fontDot glyphs g l j
