@@ -16,7 +16,7 @@ use Rattle.laws.specs.Placing.{cellHas}
 use Rattle.laws.proofs.Counts.{count-most, count-before, count-weaker, count-apart}
 use Rattle.laws.proofs.Lists.{length-tabulate, getD-tabulate}
 use Rattle.laws.proofs.Tests.{upto-at}
-use Rattle.font.specs.Font.{cellRows, cellColumns, fontRows, mostRow, rowOf, bitSet, fontDot}
+use Rattle.font.specs.Font.{cellRows, cellColumns, fontRows, mostRow, isFont, rowOf, bitSet, fontDot}
 use Rattle.font.proofs.Each.{within-each}
 use Rattle.display.specs.Cells.{kindCell, afterWord, cellsFrom}
 use Rattle.display.specs.Picture.{shownDot, dotAt}
@@ -26,9 +26,9 @@ use Rattle.packer.specs.Packing.{areWhole, areGlyphs, answerOf}
 use Rattle.packer.proofs.Dots.{same-dots, dots-same}
 use Rattle.packer.proofs.Patterns.{none-before, first-where, cell-first, like-cell}
 use Rattle.sharing.specs.Sharing.{Accepted, cellGiven}
-use Rattle.sharing.proofs.Shared.{given-is}
+use Rattle.sharing.proofs.Shared.{given-is, shows-each}
+use Rattle.judging.specs.Judging.{areWords, answerOf as paintAnswer}
 use Rattle.redrawn.specs.Screen.{isItem, areItems, isScreen, wordsFor}
-use Rattle.redrawn.specs.Picture.{answerBy}
 use Rattle.redrawn.specs.Example.{count, glyphsTo, glyphs, different, items, settings, line, Examples, TooMany}
 use Rattle.redrawn.proofs.Same.{packed-pictures}
 
@@ -131,17 +131,22 @@ packed : (font cells : List ℕ) → fontRows ≤ length font → count ≤ leng
 unfolding answerOf
 packed font cells room places = rw (are-glyphs 61 below, patterns 61 below, how-many 61 below, le-leb fontRows (length font) room, le-leb count (length cells) places)
 
+-- a call with right words and a font is accepted
+taken : (words font : List ℕ) → areWords words ≡ true → isFont font ≡ true → paintAnswer words font settings (record { 0 = 0 }) (record { 0 = 14 }) 16 .number ≡ 0
+unfolding paintAnswer
+taken words font are is = rw (are, is)
+
 pub example : Examples
-unfolding answerBy
 example font cells room places =
     let told = packed font cells room places in
     let same = packed-pictures glyphs font cells different told items is-screen in
+    let shown = shows-each glyphs font cells different told in
     record {
       packed = told;
       shared = given-is glyphs font cells different told 63 (omega (arith, how-many 61 below)) ∙ last-cell 61 below;
       screen = is-screen;
       drawn = drawn;
-      painted = same .painted (wordsFor (cellGiven glyphs font cells) items) (same .words) (same .say) settings 0 (record { 0 = 0 }) (record { 0 = 14 }) (replicate 16 7) refl ∙ ap (λ (l : List ℕ). l ++ (7 ∷ 7 ∷ [])) drawn;
+      painted = same .painted (wordsFor (cellGiven glyphs font cells) items) (same .words) (same .say) settings 0 (record { 0 = 0 }) (record { 0 = 14 }) (replicate 16 7) (taken _ _ (same .words) (shown .font-is)) ∙ ap (λ (l : List ℕ). l ++ (7 ∷ 7 ∷ [])) drawn;
     }
 
 pub too-many : TooMany

@@ -11,7 +11,7 @@ use lib.Dec.{eqb}
 use lib.ListN.{length, drop, length-map}
 use Rattle.laws.specs.Within.{within}
 use Rattle.laws.proofs.Both.{both-parts}
-use Rattle.font.specs.Font.{cellRows, cellColumns, fontDot}
+use Rattle.font.specs.Font.{isFont, cellRows, cellColumns, fontDot}
 use Rattle.port.specs.Port.{wordOf}
 use Rattle.units.specs.declared.Dots.{Dots}
 use Rattle.units.specs.declared.Lines.{Lines}
@@ -28,7 +28,7 @@ use Rattle.packer.specs.Glyphs.{glyphsIn}
 use Rattle.sharing.specs.Sharing.{ShownBy, fontGiven, cellGiven}
 use Rattle.sharing.proofs.Shared.{shows-each}
 use Rattle.redrawn.specs.Screen.{isItem, areItems, isScreen, marked, attributeFor, wordFor, wordsFor, inCell}
-use Rattle.redrawn.specs.Picture.{answerBy, SamePicture, SamePictures, PackedPictures}
+use Rattle.redrawn.specs.Picture.{SamePicture, SamePictures, PackedPictures}
 
 -- the parts of a word of this code and attribute, read back
 module _ (code t : ℕ) (in-code : code ≤ spaceCode) (in-bits : t ≤ 15) where
@@ -178,9 +178,10 @@ module _ (glyphs font : List ℕ) (cell : ℕ → ℕ) (by : ShownBy glyphs font
 
     -- any words that say the items
     module _ (ws : List ℕ) (are : areWords ws ≡ true) (says : kindsOf ws ≡ map (inCell cell) items) where
-      answers : (s : Settings) (line : Lines) (width : Dots) (room : ℕ) → answerOf ws font s line width room ≡ answerBy s line width room
-      unfolding answerOf answerBy
-      answers s line width room = rw (are, by .font-is)
+      answers : (right any : List ℕ) → areWords right ≡ true → isFont any ≡ true
+          → (s : Settings) (line : Lines) (width : Dots) (room : ℕ) → answerOf ws font s line width room ≡ answerOf right any s line width room
+      unfolding answerOf
+      answers right any are-right is-any s line width room = rw (are, by .font-is, are-right, is-any)
 
       -- the line of the words is that of the glyphs
       same : (s : Settings) (frame : ℕ) (line : Lines) (width : Dots)
@@ -190,16 +191,16 @@ module _ (glyphs font : List ℕ) (cell : ℕ → ℕ) (by : ShownBy glyphs font
           ∙ same-line (map (inCell cell) items) items (fontDot font) (fontDot glyphs) s frame line width
           (alike-cells (fontDot font) (fontDot glyphs) (firstDot s) (rowPen (firstDot s) (firstLine s) 1 (s .colour)) (map (inCell cell) items) items (same-kinds items each))
 
-      paints : (s : Settings) (frame : ℕ) (line : Lines) (width : Dots) (out : List ℕ) → answerBy s line width (length out) .number ≡ 0
+      paints : (s : Settings) (frame : ℕ) (line : Lines) (width : Dots) (out : List ℕ) → answerOf ws font s line width (length out) .number ≡ 0
           → leftBy ws font s frame line width out ≡ lineOf items (fontDot glyphs) s frame line width ++ drop (width .0) out
       unfolding leftBy
       paints s frame line width out e =
-          rw (answers s line width (length out), eq-eqb _ _ e) (ap (λ (l : List ℕ). l ++ drop (width .0) out) (same s frame line width))
+          rw (eq-eqb _ _ e) (ap (λ (l : List ℕ). l ++ drop (width .0) out) (same s frame line width))
 
-      leaves : (s : Settings) (frame : ℕ) (line : Lines) (width : Dots) (out : List ℕ) → (answerBy s line width (length out) .number ≡ 0 → ⊥)
+      leaves : (s : Settings) (frame : ℕ) (line : Lines) (width : Dots) (out : List ℕ) → (answerOf ws font s line width (length out) .number ≡ 0 → ⊥)
           → leftBy ws font s frame line width out ≡ out
       unfolding leftBy
-      leaves s frame line width out ne = rw (answers s line width (length out), ne-eqb _ _ ne)
+      leaves s frame line width out ne = rw (ne-eqb _ _ ne)
 
     pub same-picture : SamePicture glyphs font cell items
     same-picture = record { words = are-words; say = words-say items each; answer = answers; painted = paints; untouched = leaves }

@@ -4,17 +4,14 @@
 -- Assumes nothing.
 use Prim.Native.Nat.{ℕ}
 use mathlib.Core.Path.{_≡_}
-use mathlib.Core.Bool.{true, not}
+use mathlib.Core.Bool.{true}
 use mathlib.Core.List.{List, _++_, map}
-use lib.Dec.{ltb, eqb}
 use lib.ListN.{length, drop}
-use Rattle.laws.specs.Pick.{pick}
-use Rattle.laws.specs.Said.{Said, accepted, refused}
-use Rattle.font.specs.Font.{fontDot}
+use Rattle.font.specs.Font.{isFont, fontDot}
 use Rattle.units.specs.declared.Dots.{Dots}
 use Rattle.units.specs.declared.Lines.{Lines}
 use Rattle.judging.specs.declared.Settings.{Settings}
-use Rattle.judging.specs.Judging.{mostRatio, inRange, areWords, onScreen, answerOf}
+use Rattle.judging.specs.Judging.{areWords, answerOf}
 use Rattle.display.specs.declared.Kind.{Kind}
 use Rattle.display.specs.Words.{kindsOf}
 use Rattle.display.specs.Painting.{lineOf, leftBy}
@@ -22,30 +19,22 @@ use Rattle.packer.specs.Glyphs.{glyphsIn}
 use Rattle.sharing.specs.Sharing.{ShownBy, Accepted, fontGiven, cellGiven}
 use Rattle.redrawn.specs.Screen.{isScreen, wordsFor, inCell}
 
--- what a call answers that has right words and a right font: its settings, its line and width, and the room decide
-unfoldable pub answerBy : Settings → Lines → Dots → ℕ → Said
-answerBy s line width room =
-    pick (not (inRange s))
-    (refused 1 0)
-    (pick (eqb (s .ratio) mostRatio)
-    (refused 2 0)
-    (pick (not (onScreen line width)) (refused 5 0) (pick (ltb room (width .0)) (refused 6 0) (accepted 0))))
-
 -- what painting leaves of a screen of glyphs, by whatever words say its items, with each glyph's cell for its code
 pub record SamePicture (glyphs font : List ℕ) (cell : ℕ → ℕ) (items : List Kind) : Type 0 where
   -- there are such words: those of `wordsFor`. Where an item is an end there are others, as 1023 in place of 1009
   pub words : areWords (wordsFor cell items) ≡ true
   pub say : kindsOf (wordsFor cell items) ≡ map (inCell cell) items
-  -- no call is refused for them, nor for the font
+  -- no call is refused for them, nor for the font: it answers what it would with any right words and any font
   pub answer : (ws : List ℕ) → areWords ws ≡ true → kindsOf ws ≡ map (inCell cell) items
-      → (s : Settings) (line : Lines) (width : Dots) (room : ℕ) → answerOf ws font s line width room ≡ answerBy s line width room
+      → (right any : List ℕ) → areWords right ≡ true → isFont any ≡ true
+      → (s : Settings) (line : Lines) (width : Dots) (room : ℕ) → answerOf ws font s line width room ≡ answerOf right any s line width room
   -- an accepted call leaves the line that the glyphs' own dots give, and what was past the width
   pub painted : (ws : List ℕ) → areWords ws ≡ true → kindsOf ws ≡ map (inCell cell) items
-      → (s : Settings) (frame : ℕ) (line : Lines) (width : Dots) (out : List ℕ) → answerBy s line width (length out) .number ≡ 0
+      → (s : Settings) (frame : ℕ) (line : Lines) (width : Dots) (out : List ℕ) → answerOf ws font s line width (length out) .number ≡ 0
       → leftBy ws font s frame line width out ≡ lineOf items (fontDot glyphs) s frame line width ++ drop (width .0) out
   -- a refused one leaves all as it was
   pub untouched : (ws : List ℕ) → areWords ws ≡ true → kindsOf ws ≡ map (inCell cell) items
-      → (s : Settings) (frame : ℕ) (line : Lines) (width : Dots) (out : List ℕ) → (answerBy s line width (length out) .number ≡ 0 → ⊥)
+      → (s : Settings) (frame : ℕ) (line : Lines) (width : Dots) (out : List ℕ) → (answerOf ws font s line width (length out) .number ≡ 0 → ⊥)
       → leftBy ws font s frame line width out ≡ out
 
 -- it is so of every screen of glyphs that a font shows
