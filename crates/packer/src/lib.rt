@@ -10,7 +10,7 @@ ghost use Rattle.packer.specs.Packing.{areWhole, answerOf, said, fontLef
 ghost use Rattle.packer.specs.Steps.{twoAt, fourAt, withTwice, mixedSpot, spotAt, sameRows, narrowAt, partsNarrow, overOf, Chained, Walk, Found, ToNumber, Numbered, AllNumbered, ToLay, Copied, Cleared, ToLayCells};
 
 // The most glyphs that are packed.
-pub const MOST_GLYPHS: usize = 256;
+const MOST_GLYPHS: usize = 256;
 
 // The spots that patterns are kept at.
 const SPOTS: usize = 256;
