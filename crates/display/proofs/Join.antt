@@ -1,62 +1,73 @@
--- Each dot lies in at most one cell of a screen, so painting the cells in turn shows at each dot what the cell that has it shows: the
--- painter's steps are joined to the account. The pen, once past a dot, stays past it.
+-- The pen, once past a dot, stays past it, and what is past has nothing to do with the dot: no cell there has it, and none throws its shadow on it. So each dot
+-- lies in at most one cell of a screen.
 -- Assumes nothing.
 use mathlib.Core.Path.{_≡_, refl}
 use mathlib.Core.Bool.{Bool, true, false}
+use mathlib.Core.Logic.{⊎-elim}
 use mathlib.Core.List.{List, [], _∷_, _++_}
 use Prim.Native.Nat.{ℕ, _+_, _≤_}
 use native.Mathlib.Omega.{arith}
-use Rattle.laws.specs.Pick.{pick}
-use Rattle.laws.specs.Lines.{firstShown, holders}
-use Rattle.laws.proofs.Holders.{last-of-none, last-first}
+use Rattle.laws.specs.Pick.{pick, either}
+use Rattle.laws.specs.Lines.{anyOf, holders}
+use Rattle.laws.specs.Placing.{cellHas}
+use Rattle.laws.proofs.Holders.{holders-of-none}
 use Rattle.laws.proofs.Placing.{Past, past-none, past-cell, past-right, past-below}
-use Rattle.font.specs.Font.{fontDot}
 use Rattle.units.specs.declared.Dots.{Dots}
+use Rattle.words.specs.declared.Kind.{Kind}
+use Rattle.words.specs.declared.Kind.the-variants.{Character, Space, Return, End}
 use Rattle.display.specs.declared.View.{View}
 use Rattle.display.specs.declared.Pen.{Pen}
-use Rattle.display.specs.declared.Kind.{Kind}
-use Rattle.display.specs.declared.Kind.the-variants.{Character, Space, Return, End}
-use Rattle.display.specs.Cells.{kindCell, rightOf, belowRow, rowPen, afterWord, goesOn, cellsFrom}
-use Rattle.display.specs.Picture.{has, cellDot}
-use Rattle.display.specs.Steps.{painted}
+use Rattle.display.specs.Cells.{Cell, character, space, kindCell, rightOf, belowRow, rowPen, afterWord, goesOn, cellsFrom}
+use Rattle.display.specs.Picture.{Drawn, has, throws}
+use Rattle.display.proofs.Shadow.{Reached, throws-not}
 
 module _ (v : View) (left : Dots) (k : ℕ) where
-  -- the pen is past dot k of the line
+  -- the pen, or the place of a cell, is past dot k of the line
   abbrev pub PenPast : Pen → Type 0
   PenPast p = Past 12 18 (v .line .0) k (p .x .0) (p .y .0) (p .size)
 
-  past-kind : (kd : Kind) (kinds : List Kind) (p : Pen) → PenPast p
-      → ((next : Pen) → PenPast next → holders (has v k) (cellsFrom left kinds next) ≡ 0)
-      → holders (has v k) (kindCell (p .x) (p .y) (p .size) (p .background) kd ++ pick (goesOn kd) (cellsFrom left kinds (afterWord left kd p)) []) ≡ 0
-  unfolding holders kindCell afterWord
-  past-kind (Character colour code blink) kinds p h rest =
-      simp (past-none 12 18 (v .line .0) k (p .x .0) (p .y .0) (p .size) h)
-      (omega (arith, rest (rightOf p (p .background)) (past-right 12 18 (v .line .0) k (p .x .0) (p .y .0) (p .size) h)))
-  past-kind (Space own) kinds p h rest =
-      simp (past-none 12 18 (v .line .0) k (p .x .0) (p .y .0) (p .size) h)
-      (omega (arith, rest (rightOf p own) (past-right 12 18 (v .line .0) k (p .x .0) (p .y .0) (p .size) h)))
-  past-kind (Return next spacing) kinds p h rest =
-      rest (rowPen left (belowRow (p .y) (p .size) spacing) next (p .background)) (past-below 12 18 (v .line .0) k (p .x .0) (p .y .0) (p .size) (left .0) (spacing .0) next h)
-  past-kind End kinds p h rest = refl
+  abbrev pub CellPast : Cell → Type 0
+  CellPast c = Past 12 18 (v .line .0) k (c .left .0) (c .top .0) (c .size)
 
-  -- past the pen no cell has the dot
-  pub none-past : (kinds : List Kind) (p : Pen) → PenPast p → holders (has v k) (cellsFrom left kinds p) ≡ 0
-  unfolding cellsFrom holders
-  none-past [] p h = refl
-  none-past (kd ∷ kinds) p h = past-kind kd kinds p h (λ next n. none-past kinds next n)
+  -- a test that no cell past the dot passes
+  module _ (test : Cell → Bool) (none : (c : Cell) → CellPast c → test c ≡ false) where
+    past-kind : (kd : Kind) (kinds : List Kind) (p : Pen) → PenPast p → ((next : Pen) → PenPast next → anyOf test (cellsFrom left kinds next) ≡ false)
+        → anyOf test (kindCell (p .x) (p .y) (p .size) (p .background) kd ++ pick (goesOn kd) (cellsFrom left kinds (afterWord left kd p)) []) ≡ false
+    unfolding anyOf kindCell afterWord
+    past-kind (Character colour code blink) kinds p h rest =
+        simp (none (record { left = p .x; top = p .y; size = p .size; background = p .background; shows = character colour code blink }) h) (rest (rightOf p (p .background)) (past-right 12 18 (v .line .0) k (p .x .0) (p .y .0) (p .size) h))
+    past-kind (Space own) kinds p h rest =
+        simp (none (record { left = p .x; top = p .y; size = p .size; background = own; shows = space }) h) (rest (rightOf p own) (past-right 12 18 (v .line .0) k (p .x .0) (p .y .0) (p .size) h))
+    past-kind (Return next spacing) kinds p h rest =
+        rest (rowPen left (belowRow (p .y) (p .size) spacing) next (p .background)) (past-below 12 18 (v .line .0) k (p .x .0) (p .y .0) (p .size) (left .0) (spacing .0) next h)
+    past-kind End kinds p h rest = refl
+
+    none-past : (kinds : List Kind) (p : Pen) → PenPast p → anyOf test (cellsFrom left kinds p) ≡ false
+    unfolding cellsFrom anyOf
+    none-past [] p h = refl
+    none-past (kd ∷ kinds) p h = past-kind kd kinds p h (λ next n. none-past kinds next n)
+
+  -- past the pen no cell has the dot, and none throws its shadow on it
+  pub none-has : (kinds : List Kind) (p : Pen) → PenPast p → anyOf (has v k) (cellsFrom left kinds p) ≡ false
+  none-has = none-past (has v k) (λ c h. past-none 12 18 (v .line .0) k (c .left .0) (c .top .0) (c .size) h)
+
+  pub none-throws : (dots : Drawn) (kinds : List Kind) (p : Pen) → PenPast p → anyOf (throws dots v k) (cellsFrom left kinds p) ≡ false
+  none-throws dots = none-past (throws dots v k) (λ c h. throws-not dots v k c (λ r. ⊎-elim (λ above. omega arith) (λ beside. omega arith) h))
 
   one-or : (t : Bool) (rest : ℕ) → (t ≡ true → rest ≡ 0) → rest ≤ 1 → pick t 1 0 + rest ≤ 1
   one-or true rest f g = let z = f refl in omega arith
   one-or false rest f g = omega arith
 
+  -- a cell at the pen has the dot: then no later one does
+  later-none : (kinds : List Kind) (p : Pen) (back : ℕ) → cellHas 12 18 (p .x .0) (p .y .0) (p .size) (v .line .0) k ≡ true → holders (has v k) (cellsFrom left kinds (rightOf p back)) ≡ 0
+  later-none kinds p back e = holders-of-none (has v k) _ (none-has kinds (rightOf p back) (past-cell 12 18 (v .line .0) k (p .x .0) (p .y .0) (p .size) e))
+
   one-kind : (kd : Kind) (kinds : List Kind) (p : Pen)
       → ((next : Pen) → holders (has v k) (cellsFrom left kinds next) ≤ 1)
       → holders (has v k) (kindCell (p .x) (p .y) (p .size) (p .background) kd ++ pick (goesOn kd) (cellsFrom left kinds (afterWord left kd p)) []) ≤ 1
   unfolding holders kindCell afterWord
-  one-kind (Character colour code blink) kinds p rest =
-      one-or _ _ (λ e. none-past kinds (rightOf p (p .background)) (past-cell 12 18 (v .line .0) k (p .x .0) (p .y .0) (p .size) e)) (rest (rightOf p (p .background)))
-  one-kind (Space own) kinds p rest =
-      one-or _ _ (λ e. none-past kinds (rightOf p own) (past-cell 12 18 (v .line .0) k (p .x .0) (p .y .0) (p .size) e)) (rest (rightOf p own))
+  one-kind (Character colour code blink) kinds p rest = one-or _ _ (λ e. later-none kinds p (p .background) e) (rest (rightOf p (p .background)))
+  one-kind (Space own) kinds p rest = one-or _ _ (λ e. later-none kinds p own e) (rest (rightOf p own))
   one-kind (Return next spacing) kinds p rest = rest (rowPen left (belowRow (p .y) (p .size) spacing) next (p .background))
   one-kind End kinds p rest = omega arith
 
@@ -65,12 +76,3 @@ module _ (v : View) (left : Dots) (k : ℕ) where
   unfolding cellsFrom holders
   one-cell [] p = omega arith
   one-cell (kd ∷ kinds) p = one-kind kd kinds p (λ next. one-cell kinds next)
-
-  -- painting in turn shows what the account says
-  pub joined : (font : List ℕ) (kinds : List Kind) (p : Pen) (old : ℕ)
-      → painted font v (cellsFrom left kinds p) k old ≡ firstShown (has v k) (cellDot (fontDot font) v k) (cellsFrom left kinds p) old
-  joined font kinds p old = last-first (has v k) (cellDot (fontDot font) v k) (cellsFrom left kinds p) old (one-cell kinds p)
-
-  -- past the pen nothing is painted
-  pub quiet : (font : List ℕ) (kinds : List Kind) (p : Pen) (old : ℕ) → PenPast p → painted font v (cellsFrom left kinds p) k old ≡ old
-  quiet font kinds p old h = last-of-none (has v k) (cellDot (fontDot font) v k) (cellsFrom left kinds p) old (none-past kinds p h)

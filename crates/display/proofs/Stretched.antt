@@ -1,87 +1,104 @@
--- What a cell's bits show, stretched over its dots, is what the account says of the cell.
+-- What a cell's row shows, stretched over its dots, is what the account says of the cell, the shadow of the cell before it among that.
 -- Assumes nothing.
-use mathlib.Core.Path.{_≡_, refl, ap, _∙_}
+use mathlib.Core.Path.{_≡_, refl, sym, ap, _∙_}
 use mathlib.Core.Bool.{Bool, true, false}
-use mathlib.Core.List.{List, []}
-use Prim.Native.Nat.{ℕ, _-_, _*_, _/_, _%_, _^_, _<_, _≤_}
+use mathlib.Core.List.{List}
+use Prim.Native.Nat.{ℕ, _+_, _-_, _*_, _/_, _%_, _<_, _≤_}
 use native.Mathlib.Omega.{arith}
-use native.Mathlib.Nat.{zero-div}
-use Rattle.laws.specs.Pick.{pick, both}
-use Rattle.laws.specs.Lines.{overlay, lastShown}
+use borrow.Author.Tests.{eqb-true}
+use lib.Dec.{eqb}
+use Rattle.laws.specs.Lines.{overlay}
+use Rattle.laws.specs.Pick.{pick, both, either}
 use Rattle.laws.specs.Placing.{spanHas, patched}
-use Rattle.laws.proofs.Overlay.{overlay-leaves, overlay-same}
-use Rattle.laws.proofs.Placing.{cell-in-row, share-below}
-use Rattle.font.specs.Font.{cellRows, cellColumns, rowOf, bitSet}
-use Rattle.modes.specs.Modes.{unlitByte, inColour}
+use Rattle.laws.proofs.Both.{pick-where, pick-of}
+use Rattle.laws.proofs.Placing.{cell-in-row, span-has, share-below, first-part}
+use Rattle.font.specs.Font.{cellRows, cellColumns, bitSet, fontDot}
+use Rattle.modes.specs.Modes.{groundByte, inColour}
 use Rattle.judging.specs.Judging.{mostColour}
-use Rattle.units.specs.declared.Dots.{Dots}
-use Rattle.units.specs.declared.Lines.{Lines}
+use Rattle.stretch.specs.declared.Row.{Row}
+use Rattle.stretch.specs.Stretch.{shadeSet, columnByte, stretched}
 use Rattle.display.specs.declared.View.{View}
-use Rattle.display.specs.declared.Placed.{Placed}
-use Rattle.display.specs.declared.Kind.the-variants.{Character, Space, Return, End}
-use Rattle.display.specs.Cells.{kindCell, cellOf}
-use Rattle.display.specs.Picture.{steadyOr, shownDot}
-use Rattle.stretch.specs.Stretch.{bitByte, stretched}
-use Rattle.display.specs.Steps.{painted, shownBits, Cut}
+use Rattle.display.specs.declared.Pen.{Pen}
+use Rattle.display.specs.Cells.{Cell, character, space}
+use Rattle.display.specs.Picture.{Drawn, has, litAt, shadowOf, throws, shownDot, cellDot}
+use Rattle.display.specs.Steps.{onFirst, rowShown, inkOf, Cut}
+use Rattle.display.proofs.Shadow.{no-bits, shown-bit, shade-at, ground-plain}
+
+-- dot k after this cell was painted, `before` telling whether the cell before it throws its shadow on the dot
+abbrev pub drawnDot : Drawn → View → ℕ → Bool → Cell → ℕ → ℕ
+drawnDot dots v k before c old = pick (has v k c) (cellDot dots v (either before (throws dots v k c)) k c) old
 
 -- the row of a font that the line cuts is one of its cell
-pub row-within : (v : View) (y : Lines) (size : ℕ) → Cut v y size → (v .line .0 - y .0) / size < cellRows
-row-within v y size cut = share-below cellRows size (v .line .0) (y .0) (cut .from) (cut .to)
+pub row-within : (v : View) (p : Pen) → Cut v p → (v .line .0 - p .y .0) / p .size < cellRows
+row-within v p cut = share-below cellRows (p .size) (v .line .0) (p .y .0) (cut .from) (cut .to)
 
-no-bits : (j : ℕ) → bitSet 0 j ≡ false
-no-bits j = simp (zero-div (2 ^ (11 - j)))
+-- what the cell before throws falls on the first column alone
+shade-first : (above j : ℕ) (thrown : Bool) → shadeSet above thrown j ≡ either (both thrown (eqb j 0)) (shadeSet above false j)
+shade-first above j thrown = go thrown (eqb j 0) (bitSet above (j - 1))
+  where
+    go : (t first bit : Bool) → pick first t bit ≡ either (both t first) (pick first false bit)
+    go true true bit = refl
+    go true false bit = refl
+    go false true bit = refl
+    go false false bit = refl
 
--- bits blinked out show as a row whose dots are all unlit
-shown-bits-dot : (shown : Bool) (row j on off : ℕ) → bitByte (pick shown row 0) j on off ≡ pick (both shown (bitSet row j)) on off
-shown-bits-dot true row j on off = refl
-shown-bits-dot false row j on off = simp (no-bits j)
+no-shade : (j : ℕ) → false ≡ shadeSet 0 false j
+no-shade j = sym (go (eqb j 0) (bitSet 0 (j - 1)) (no-bits (j - 1)))
+  where
+    go : (first bit : Bool) → bit ≡ false → pick first false bit ≡ false
+    go true bit e = refl
+    go false bit e = e
 
-pick-same : (t : Bool) (a : ℕ) → pick t a a ≡ a
-pick-same true a = refl
-pick-same false a = refl
+-- a column's byte, by whether its dot is lit and whether a shadow falls on it
+module _ (v : View) (bits above on back j : ℕ) (thrown first lit shadow : Bool) where
+  column-shade : eqb j 0 ≡ first → (v .mode ≡ 1 → shadow ≡ shadeSet above false j) → (t : Bool) → eqb (v .mode) 1 ≡ t
+      → groundByte (v .mode) true (shadeSet above thrown j) back ≡ groundByte (v .mode) true (either (both thrown first) shadow) back
+  column-shade at falls true in-1 =
+      ap (λ (s : Bool). groundByte (v .mode) true s back)
+      (shade-first above j thrown ∙ ap (λ (s : Bool). either (both thrown s) (shadeSet above false j)) at ∙ ap (either (both thrown first)) (sym (falls (eqb-true _ _ in-1))))
+  column-shade at falls false other =
+      ground-plain (v .mode) true (shadeSet above thrown j) back other ∙ sym (ground-plain (v .mode) true (either (both thrown first) shadow) back other)
 
-module _ (font : List ℕ) (v : View) (x : Dots) (y : Lines) (size before : ℕ) (cut : Cut v y size) where
-  character-dot : (colour code : ℕ) (blink : Bool) (k a : ℕ)
-      → stretched (x .0) (12 * size) size (shownBits font v y size code blink) (inColour colour) (unlitByte (v .mode) before) k a
-      ≡ painted font v (kindCell x y size before (Character colour code blink)) k a
-  unfolding patched kindCell lastShown shownDot
-  character-dot colour code blink k a =
-      rw (cell-in-row 12 18 (v .line .0) k (x .0) (y .0) size (cut .from) (cut .to))
-      (ap (λ (b : ℕ). pick (spanHas (x .0) (12 * size) k) b a)
-      (shown-bits-dot (steadyOr blink (v .lit)) (rowOf font code ((v .line .0 - y .0) / size)) ((k - x .0) / size) (inColour colour) (unlitByte (v .mode) before)))
+  column-byte : back ≤ mostColour → bitSet bits j ≡ lit → eqb j 0 ≡ first → (v .mode ≡ 1 → shadow ≡ shadeSet above false j)
+      → columnByte (record { bits = bits; above = above; before = thrown }) (inkOf (v .mode) on back) j ≡ pick lit on (groundByte (v .mode) true (either (both thrown first) shadow) back)
+  column-byte within bit at falls =
+      let whole : back % 8 ≡ back = omega arith in
+      ap (λ (t : Bool). pick t on (pick (shadeSet above thrown j) (groundByte (v .mode) true true (back % 8)) (groundByte (v .mode) true false (back % 8)))) bit
+      ∙ ap (λ (n : ℕ). pick lit on n)
+      (pick-of (λ s. groundByte (v .mode) true s (back % 8)) (shadeSet above thrown j)
+      ∙ ap (groundByte (v .mode) true (shadeSet above thrown j)) whole
+      ∙ column-shade at falls (eqb (v .mode) 1) refl)
 
-  space-dot : (own k a : ℕ)
-      → stretched (x .0) (12 * size) size 0 (unlitByte (v .mode) own) (unlitByte (v .mode) own) k a
-      ≡ painted font v (kindCell x y size before (Space own)) k a
-  unfolding patched kindCell lastShown shownDot
-  space-dot own k a =
-      rw (cell-in-row 12 18 (v .line .0) k (x .0) (y .0) size (cut .from) (cut .to))
-      (ap (λ (b : ℕ). pick (spanHas (x .0) (12 * size) k) b a) (pick-same (bitSet 0 ((k - x .0) / size)) (unlitByte (v .mode) own)))
+-- a character's cell, and a space's
+module _ (font : List ℕ) (v : View) (p : Pen) (thrown : Bool) (cut : Cut v p) (some : 1 ≤ p .size) (k a : ℕ) where
+  pub character-dot : (colour code : ℕ) (blink : Bool) → p .background ≤ mostColour
+      → stretched (p .x .0) (12 * p .size) (p .size) (rowShown font v code blink ((v .line .0 - p .y .0) / p .size) thrown) (inkOf (v .mode) (inColour colour) (p .background)) k a
+      ≡ drawnDot (fontDot font) v k (onFirst p thrown k) (record { left = p .x; top = p .y; size = p .size; background = p .background; shows = character colour code blink }) a
+  unfolding patched shadowOf shownDot
+  character-dot colour code blink within =
+      rw (cell-in-row 12 18 (v .line .0) k (p .x .0) (p .y .0) (p .size) (cut .from) (cut .to))
+      (pick-where (spanHas (p .x .0) (12 * p .size) k) _ _ a (λ e.
+        let h = span-has (p .x .0) (12 * p .size) k e in
+        let l : ℕ = (v .line .0 - p .y .0) / p .size in
+        let j : ℕ = (k - p .x .0) / p .size in
+        let column : j < 12 = share-below 12 (p .size) k (p .x .0) (h .0) (h .1) in
+        column-byte v _ _ (inColour colour) (p .background) j thrown (spanHas (p .x .0) (p .size) k) (litAt (fontDot font) v code blink l j) _ within
+        (shown-bit font v code blink l j) (sym (first-part (p .size) k (p .x .0) some (h .0))) (λ one. shade-at font v code blink l j one (row-within v p cut) (omega arith))))
 
--- a colour has three bits, and all of it counts
-whole-colour : (colour : ℕ) → colour ≤ mostColour → colour % 8 ≡ colour
-whole-colour colour within = omega arith
+  pub space-dot : (own : ℕ) → own ≤ mostColour
+      → stretched (p .x .0) (12 * p .size) (p .size) (record { bits = 0; above = 0; before = thrown }) (inkOf (v .mode) 0 own) k a
+      ≡ drawnDot (fontDot font) v k (onFirst p thrown k) (record { left = p .x; top = p .y; size = p .size; background = own; shows = space }) a
+  unfolding patched shadowOf shownDot
+  space-dot own within =
+      rw (cell-in-row 12 18 (v .line .0) k (p .x .0) (p .y .0) (p .size) (cut .from) (cut .to))
+      (pick-where (spanHas (p .x .0) (12 * p .size) k) _ _ a (λ e.
+        let h = span-has (p .x .0) (12 * p .size) k e in
+        let j : ℕ = (k - p .x .0) / p .size in
+        column-byte v 0 0 0 own j thrown (spanHas (p .x .0) (p .size) k) false false within
+        (no-bits j) (sym (first-part (p .size) k (p .x .0) some (h .0))) (λ one. no-shade j)))
 
--- the cell of a word, by its kind
-module _ (font : List ℕ) (v : View) (c : Placed) (before : ℕ) (out : List ℕ) where
-  pub drawn-character : (colour code : ℕ) (blink : Bool) (bits off : ℕ) (last : List ℕ) → Cut v (c .y) (c .size) → c .kind ≡ Character colour code blink
-      → bits ≡ shownBits font v (c .y) (c .size) code blink → before ≤ mostColour → off ≡ unlitByte (v .mode) (before % 8)
-      → last ≡ overlay (stretched (c .x .0) (cellColumns * c .size) (c .size) bits (inColour colour) off) out
-      → last ≡ overlay (painted font v (cellOf c before)) out
-  drawn-character colour code blink bits off last cut told shows within shade drawn =
-      drawn ∙ rw (told, shows, shade, whole-colour before within) (overlay-same _ _ out (λ k a. character-dot font v (c .x) (c .y) (c .size) before cut colour code blink k a))
-
-  pub drawn-space : (own off : ℕ) (last : List ℕ) → Cut v (c .y) (c .size) → c .kind ≡ Space own → own ≤ mostColour → off ≡ unlitByte (v .mode) (own % 8)
-      → last ≡ overlay (stretched (c .x .0) (cellColumns * c .size) (c .size) 0 off off) out
-      → last ≡ overlay (painted font v (cellOf c before)) out
-  drawn-space own off last cut told within shade drawn =
-      drawn ∙ rw (told, shade, whole-colour own within) (overlay-same _ _ out (λ k a. space-dot font v (c .x) (c .y) (c .size) before cut own k a))
-
-  -- neither a return nor an end has a cell
-  pub drawn-return : (size : ℕ) (spacing : Lines) → c .kind ≡ Return size spacing → out ≡ overlay (painted font v (cellOf c before)) out
-  unfolding kindCell lastShown
-  drawn-return size spacing told = rw told (overlay-leaves (painted font v []) out (λ k a lt. refl))
-
-  pub drawn-end : c .kind ≡ End → out ≡ overlay (painted font v (cellOf c before)) out
-  unfolding kindCell lastShown
-  drawn-end told = rw told (overlay-leaves (painted font v []) out (λ k a lt. refl))
+-- the bytes of a cell, as the table of modes tells them
+pub inked : (p : Pen) (row : Row) (mode on back shade off : ℕ) (out last : List ℕ) → shade ≡ groundByte mode true true (back % 8) → off ≡ groundByte mode true false (back % 8)
+    → last ≡ overlay (stretched (p .x .0) (cellColumns * p .size) (p .size) row (record { on = on; shade = shade; off = off })) out
+    → last ≡ overlay (stretched (p .x .0) (cellColumns * p .size) (p .size) row (inkOf mode on back)) out
+inked p row mode on back shade off out last is is′ laid = laid ∙ rw (is, is′)

@@ -1,120 +1,190 @@
--- One step of the walk over the words: the cell of the first word is painted, then those of the others from the next pen on.
+-- The walk along a row, dot by dot: painting a cell, and then the cells after it with what it throws on the first of them, paints the account's list of cells. And the
+-- walk past the rows above the line.
 -- Assumes nothing.
-use mathlib.Core.Path.{_≡_, refl, sym, ap, subst, _∙_}
-use mathlib.Core.Bool.{Bool, true}
-use mathlib.Core.List.{List, [], _∷_, _++_, append-nil}
-use Prim.Native.Nat.{ℕ, _+_, _-_, _*_, _<_}
+use mathlib.Core.Path.{_≡_, refl, sym, ap, _∙_}
+use mathlib.Core.Bool.{Bool, true, false, true≢false}
+use mathlib.Core.Logic.{⊎-elim}
+use mathlib.Core.List.{List, [], _∷_, _++_}
+use Prim.Native.Nat.{ℕ, _+_, _-_, _*_, _/_, _<_, _≤_}
 use native.Mathlib.Omega.{arith}
-use lib.ListN.{length, take, drop, getD, length-drop}
-use lib.Seq.{take-all}
-use Rattle.laws.specs.Pick.{pick}
-use Rattle.laws.specs.Lines.{overlay, lastShown}
-use Rattle.laws.proofs.Overlay.{overlay-leaves, overlay-same, overlay-twice}
-use Rattle.laws.proofs.Holders.{last-append}
-use Rattle.laws.proofs.Placing.{room-step}
-use Rattle.font.specs.Font.{fontDot}
+use borrow.Author.Tests.{eqb-true, eq-eqb}
+use lib.Dec.{eqb}
+use Rattle.laws.specs.Pick.{pick, both, either}
+use Rattle.laws.specs.Lines.{firstShown, anyOf}
+use Rattle.laws.specs.Placing.{spanHas, cellHas}
+use Rattle.laws.proofs.Both.{none-left, none-right, both-none, either-none, fails-unless}
+use Rattle.laws.proofs.Holders.{first-of-none, first-same}
+use Rattle.laws.proofs.Placing.{span-in, span-has, span-before, cell-above, cell-in-row, past-cell, part-at}
+use Rattle.laws.proofs.Scan.{split}
+use Rattle.font.specs.Font.{cellRows, bitSet, fontDot}
 use Rattle.units.specs.declared.Dots.{Dots}
-use Rattle.units.specs.declared.Lines.{Lines}
+use Rattle.words.specs.declared.Kind.{Kind}
+use Rattle.words.specs.declared.Kind.the-variants.{Character, Space, Return, End}
+use Rattle.stretch.specs.Stretch.{shadeSet}
 use Rattle.display.specs.declared.View.{View}
 use Rattle.display.specs.declared.Pen.{Pen}
-use Rattle.display.specs.declared.Placed.{Placed}
-use Rattle.display.specs.declared.Kind.{Kind}
-use Rattle.display.specs.declared.Kind.the-variants.{Character, Space, Return, End}
-use Rattle.display.specs.Words.{kindOf, kindsOf}
-use Rattle.display.specs.Cells.{placedAt, cellOf, rightOf, belowRow, rowPen, afterWord, goesOn, cellsFrom}
-use Rattle.display.specs.Picture.{has, cellDot}
-use Rattle.display.specs.Steps.{painted, Sound, Room}
+use Rattle.display.specs.Cells.{Cell, character, space, kindCell, rightOf, rowPen, afterWord, goesOn, cellsFrom}
+use Rattle.display.specs.Picture.{Drawn, has, throws, shadowOf, cellDot}
+use Rattle.display.specs.Steps.{fallen, paintedIn, painted, onFirst, aboveRow, endOf, Cut}
+use Rattle.display.proofs.Join.{PenPast, none-has, none-throws}
+use Rattle.display.proofs.Shadow.{Reached, throws-not, shade-at, dot-plain}
+use Rattle.display.proofs.Stretched.{drawnDot, row-within}
 
--- the words from `read` on, as a part of the slice
-pub part-is : (ws : List ℕ) (read : ℕ) → take (length ws - read) (drop read ws) ≡ drop read ws
-part-is ws read = take-all (length ws - read) (drop read ws) (omega (arith, length-drop read ws))
+module _ (dots : Drawn) (v : View) (k : ℕ) where
+  -- in other modes than 1 a shadow changes nothing
+  fallen-plain : (shaded : Bool) (old : ℕ) → eqb (v .mode) 1 ≡ false → fallen v shaded old ≡ old
+  fallen-plain shaded old other = simp other
 
-pub part-length : (ws : List ℕ) (read : ℕ) → length (take (length ws - read) (drop read ws)) ≡ length ws - read
-part-length ws read = ap length (part-is ws read) ∙ length-drop read ws
+  painted-plain : (cs : List Cell) (old : ℕ) (s t : Bool) → eqb (v .mode) 1 ≡ false → paintedIn dots v cs k old s ≡ paintedIn dots v cs k old t
+  painted-plain cs old s t other =
+      first-same (has v k) (cellDot dots v s k) (cellDot dots v t k) cs (fallen v s old) (λ c. dot-plain dots v s k c other ∙ sym (dot-plain dots v t k c other))
+      ∙ ap (firstShown (has v k) (cellDot dots v t k) cs) (fallen-plain s old other ∙ sym (fallen-plain t old other))
 
--- room is left for the words that are left
-room-after : (v : View) (p : Pen) (kd : Kind) (n m : ℕ) → Room v p n → n ≡ m + 1 → Sound kd → Room v (afterWord (v .left) kd p) m
-unfolding afterWord
-room-after v p (Character a b c) n m r e s =
-    record { start = omega arith; right = room-step 65536 48 (12 * p .size) (p .x .0) m (omega arith) (omega arith); down = omega arith; some = omega arith; size = omega arith; colour = omega arith }
-room-after v p (Space a) n m r e s =
-    record { start = omega arith; right = room-step 65536 48 (12 * p .size) (p .x .0) m (omega arith) (omega arith); down = omega arith; some = omega arith; size = omega arith; colour = omega arith }
-room-after v p (Return a b) n m r e s =
-    record { start = omega arith; right = omega arith; down = omega arith; some = omega arith; size = omega arith; colour = omega arith }
-room-after v p End n m r e s =
-    record { start = omega arith; right = omega arith; down = omega arith; some = omega arith; size = omega arith; colour = omega arith }
+  -- cells that have nothing to do with the dot
+  pub painted-none : (cs : List Cell) (before : Bool) (old : ℕ) → anyOf (has v k) cs ≡ false → anyOf (throws dots v k) cs ≡ false → painted dots v before cs k old ≡ fallen v before old
+  painted-none cs before old none dark =
+      ap (λ (t : Bool). paintedIn dots v cs k old (either before t)) dark
+      ∙ ap (paintedIn dots v cs k old) (either-none before)
+      ∙ first-of-none (has v k) (cellDot dots v before k) cs (fallen v before old) none
 
-module _ (font : List ℕ) (v : View) (left : Dots) (ws : List ℕ) (p : Pen) where
-  -- no word is left
-  pub stops : (out : List ℕ) → length ws ≡ 0 → out ≡ overlay (painted font v (cellsFrom left (kindsOf ws) p)) out
-  unfolding kindsOf cellsFrom lastShown
-  stops out e = go ws e
-    where
-      go : (ws : List ℕ) → length ws ≡ 0 → out ≡ overlay (painted font v (cellsFrom left (kindsOf ws) p)) out
-      go [] e = overlay-leaves (painted font v []) out (λ k a lt. refl)
-      go (w ∷ ws) e = absurd (omega arith)
+  fallen-none : (old : ℕ) → fallen v false old ≡ old
+  fallen-none old = ap (λ (t : Bool). pick t 8 old) (both-none (eqb (v .mode) 1))
 
-  first : (cell : Placed) → 0 < length ws → cell ≡ placedAt p (kindOf (getD ws 0 0))
-      → cellOf cell (p .background) ++ pick (goesOn (cell .kind)) (cellsFrom left (kindsOf (drop 1 ws)) (afterWord left (cell .kind) p)) [] ≡ cellsFrom left (kindsOf ws) p
-  unfolding kindsOf cellsFrom
-  first cell lt is = rw is (go ws lt)
-    where
-      go : (ws : List ℕ) → 0 < length ws
-          → cellOf (placedAt p (kindOf (getD ws 0 0))) (p .background) ++ pick (goesOn (kindOf (getD ws 0 0))) (cellsFrom left (kindsOf (drop 1 ws)) (afterWord left (kindOf (getD ws 0 0)) p)) []
-          ≡ cellsFrom left (kindsOf ws) p
-      go [] lt = absurd (omega arith)
-      go (w ∷ ws) lt = refl
+  pub painted-quiet : (cs : List Cell) (old : ℕ) → anyOf (has v k) cs ≡ false → anyOf (throws dots v k) cs ≡ false → painted dots v false cs k old ≡ old
+  painted-quiet cs old none dark = painted-none cs false old none dark ∙ fallen-none old
 
-  -- the first word is an end
-  pub ends : (cell : Placed) (out mid : List ℕ) → 0 < length ws
-      → cell ≡ placedAt p (kindOf (getD ws 0 0)) → cell .kind ≡ End
-      → mid ≡ overlay (painted font v (cellOf cell (p .background))) out
-      → mid ≡ overlay (painted font v (cellsFrom left (kindsOf ws) p)) out
-  ends cell out mid lt is end drawn =
-      drawn
-      ∙ ap (λ cs. overlay (painted font v cs) out)
-      (sym (append-nil (cellOf cell (p .background)))
-      ∙ ap (λ (kd : Kind). cellOf cell (p .background) ++ pick (goesOn kd) (cellsFrom left (kindsOf (drop 1 ws)) (afterWord left (cell .kind) p)) []) (sym end)
-      ∙ first cell lt is)
+  -- a cell that has the dot, before cells that have nothing to do with it
+  module _ (c : Cell) (cs : List Cell) (before : Bool) (old : ℕ) where
+    pub walk-here : has v k c ≡ true → anyOf (has v k) cs ≡ false → anyOf (throws dots v k) cs ≡ false
+        → painted dots v false cs k (drawnDot dots v k before c old) ≡ painted dots v before (c ∷ cs) k old
+    unfolding firstShown anyOf
+    walk-here here none dark =
+        painted-quiet cs (drawnDot dots v k before c old) none dark
+        ∙ rw (here, dark, either-none (throws dots v k c))
 
-  -- it is another, and the words after it are painted from the next pen on
-  pub steps : (cell : Placed) (next : Pen) (out mid last : List ℕ) → 0 < length ws
-      → cell ≡ placedAt p (kindOf (getD ws 0 0)) → next ≡ afterWord left (cell .kind) p → goesOn (cell .kind) ≡ true
-      → mid ≡ overlay (painted font v (cellOf cell (p .background))) out
-      → last ≡ overlay (painted font v (cellsFrom left (kindsOf (take (length ws - 1) (drop 1 ws))) next)) mid
-      → last ≡ overlay (painted font v (cellsFrom left (kindsOf ws) p)) out
-  steps cell next out mid last lt is moved on drawn done =
-      let here = cellOf cell (p .background) in
-      let rest = cellsFrom left (kindsOf (drop 1 ws)) (afterWord left (cell .kind) p) in
-      done
-      ∙ ap (λ (t : List ℕ). overlay (painted font v (cellsFrom left (kindsOf t) next)) mid) (part-is ws 1)
-      ∙ ap (λ (q : Pen). overlay (painted font v (cellsFrom left (kindsOf (drop 1 ws)) q)) mid) moved
-      ∙ ap (λ (t : List ℕ). overlay (painted font v rest) t) drawn
-      ∙ overlay-twice (painted font v here) (painted font v rest) 0 out
-      ∙ overlay-same _ _ out (λ k a.
-      sym (last-append (has v k) (cellDot (fontDot font) v k) here rest a)
-      ∙ ap (λ (t : Bool). painted font v (here ++ pick t rest []) k a) (sym on)
-      ∙ ap (λ cs. painted font v cs k a) (first cell lt is))
+    -- one that does not have it, and hands over what it throws
+    walk-by : (t : Bool) → eqb (v .mode) 1 ≡ t → (next : Bool) → has v k c ≡ false → before ≡ false → (v .mode ≡ 1 → throws dots v k c ≡ next)
+        → painted dots v next cs k old ≡ painted dots v before (c ∷ cs) k old
+    unfolding firstShown anyOf
+    walk-by true in-1 next away clear hands = rw (away, clear, hands (eqb-true _ _ in-1))
+    walk-by false other next away clear hands = rw (away, clear) (painted-plain cs old (either next (anyOf (throws dots v k) cs)) (either (throws dots v k c) (anyOf (throws dots v k) cs)) other)
 
--- room at the next pen for the words after the first
-pub room-rest : (v : View) (p next : Pen) (kd : Kind) (ws : List ℕ) → Room v p (length ws) → 0 < length ws → Sound kd → next ≡ afterWord (v .left) kd p
-    → Room v next (length (take (length ws - 1) (drop 1 ws)))
-room-rest v p next kd ws r lt s e =
-    subst (λ (q : Pen). Room v q (length (take (length ws - 1) (drop 1 ws)))) (sym e)
-    (room-after v p kd (length ws) (length (take (length ws - 1) (drop 1 ws))) r (omega (arith, part-length ws 1)) s)
+    pub walk-away : (next : Bool) → has v k c ≡ false → before ≡ false → (v .mode ≡ 1 → throws dots v k c ≡ next)
+        → painted dots v next cs k (drawnDot dots v k before c old) ≡ painted dots v before (c ∷ cs) k old
+    walk-away next away clear hands =
+        ap (λ (t : Bool). painted dots v next cs k (pick t (cellDot dots v (either before (throws dots v k c)) k c) old)) away ∙ walk-by (eqb (v .mode) 1) refl next away clear hands
 
-module _ (left : Dots) (p : Pen) (cell : Placed) where
-  pub moved-return : (w size : ℕ) (spacing y : Lines) → cell ≡ placedAt p (kindOf w) → cell .kind ≡ Return size spacing
-      → y ≡ belowRow (cell .y) (cell .size) spacing → rowPen left y size (p .background) ≡ afterWord left (cell .kind) p
-  unfolding afterWord
-  moved-return w size spacing y is told e =
-      rw told (ap (λ (q : Lines). rowPen left q size (p .background)) (e ∙ ap (λ (c : Placed). belowRow (c .y) (c .size) spacing) is))
+  -- one that has nothing to do with it
+  pub walk-past : (c : Cell) (cs : List Cell) (before : Bool) (old : ℕ) → has v k c ≡ false → throws dots v k c ≡ false → painted dots v before (c ∷ cs) k old ≡ painted dots v before cs k old
+  unfolding firstShown anyOf
+  walk-past c cs before old away dark = rw (away, dark)
 
-  pub moved-space : (own : ℕ) (next : Pen) → cell .kind ≡ Space own → next ≡ rightOf p own → next ≡ afterWord left (cell .kind) p
-  unfolding afterWord
-  moved-space own next told e = rw told e
+  -- the end of a row
+  pub row-end : (p : Pen) (thrown : Bool) (old : ℕ) → (thrown ≡ true → v .mode ≡ 1) → fallen v (onFirst p thrown k) old ≡ endOf p thrown k old
+  row-end p true old only = let in-1 : eqb (v .mode) 1 ≡ true = eq-eqb _ _ (only refl) in simp in-1
+  row-end p false old only = fallen-none old
 
-  pub moved-character : (colour code : ℕ) (blink : Bool) (next : Pen) → cell .kind ≡ Character colour code blink → next ≡ rightOf p (p .background)
-      → next ≡ afterWord left (cell .kind) p
-  unfolding afterWord
-  moved-character colour code blink next told e = rw told e
+  -- a cell at the pen in the row that the line cuts, and the cells after it
+  module _ (left : Dots) (p : Pen) (cut : Cut v p) (some : 1 ≤ p .size) (c : Cell) (ex : c .left ≡ p .x) (ey : c .top ≡ p .y) (es : c .size ≡ p .size) (back : ℕ) (kinds : List Kind) (thrown next : Bool) (old : ℕ)
+      (hands : v .mode ≡ 1 → p .x .0 + 12 * p .size ≤ k → k < p .x .0 + 13 * p .size → throws dots v k c ≡ next) where
+    in-row : has v k c ≡ spanHas (p .x .0) (12 * p .size) k
+    in-row = rw (ex, ey, es) (cell-in-row 12 18 (v .line .0) k (p .x .0) (p .y .0) (p .size) (cut .from) (cut .to))
+
+    step-here : has v k c ≡ true
+        → painted dots v (onFirst (rightOf p back) next k) (cellsFrom left kinds (rightOf p back)) k (drawnDot dots v k (onFirst p thrown k) c old)
+        ≡ painted dots v (onFirst p thrown k) (c ∷ cellsFrom left kinds (rightOf p back)) k old
+    step-here e =
+        let h = span-has (p .x .0) (12 * p .size) k (sym in-row ∙ e) in
+        let past : PenPast v left k (rightOf p back) = past-cell 12 18 (v .line .0) k (p .x .0) (p .y .0) (p .size) (rw (ex, ey, es) at e) in
+        ap (λ (t : Bool). painted dots v t (cellsFrom left kinds (rightOf p back)) k (drawnDot dots v k (onFirst p thrown k) c old))
+        (none-right next _ (span-before (p .x .0 + 12 * p .size) (p .size) k (h .1)))
+        ∙ walk-here c (cellsFrom left kinds (rightOf p back)) (onFirst p thrown k) old e (none-has v left k kinds (rightOf p back) past) (none-throws v left k dots kinds (rightOf p back) past)
+
+    handed : v .mode ≡ 1 → spanHas (p .x .0) (12 * p .size) k ≡ false → throws dots v k c ≡ onFirst (rightOf p back) next k
+    handed one away = go (spanHas (p .x .0 + 12 * p .size) (p .size) k) refl
+      where
+        go : (t : Bool) → spanHas (p .x .0 + 12 * p .size) (p .size) k ≡ t → throws dots v k c ≡ both next t
+        go true e = let h = span-has (p .x .0 + 12 * p .size) (p .size) k e in hands one (h .0) (omega arith) ∙ sym (keep next)
+          where
+            keep : (t : Bool) → both t true ≡ t
+            keep true = refl
+            keep false = refl
+        go false e = throws-not dots v k c (λ r. outside r) ∙ sym (both-none next)
+          where
+            outside : Reached v k c → ⊥
+            outside r =
+                let across : p .x .0 + p .size ≤ k = rw (ex, es) at (r .across) in
+                let end : k < p .x .0 + 13 * p .size = rw (ex, es) at (r .end) in
+                ⊎-elim
+                (λ (far : p .x .0 + 12 * p .size ≤ k). absurd (true≢false (sym (span-in (p .x .0 + 12 * p .size) (p .size) k far (omega arith)) ∙ e)))
+                (λ (near : k < p .x .0 + 12 * p .size). absurd (true≢false (sym (span-in (p .x .0) (12 * p .size) k (omega arith) near) ∙ away)))
+                (split (p .x .0 + 12 * p .size) k)
+
+    clear : spanHas (p .x .0) (12 * p .size) k ≡ false → onFirst p thrown k ≡ false
+    clear away = none-right thrown _ (fails-unless (spanHas (p .x .0) (p .size) k) (λ e. let h = span-has (p .x .0) (p .size) k e in
+        true≢false (sym (span-in (p .x .0) (12 * p .size) k (h .0) (omega arith)) ∙ away)))
+
+    pub step-cell : painted dots v (onFirst (rightOf p back) next k) (cellsFrom left kinds (rightOf p back)) k (drawnDot dots v k (onFirst p thrown k) c old)
+        ≡ painted dots v (onFirst p thrown k) (c ∷ cellsFrom left kinds (rightOf p back)) k old
+    step-cell = go (has v k c) refl
+      where
+        go : (t : Bool) → has v k c ≡ t
+            → painted dots v (onFirst (rightOf p back) next k) (cellsFrom left kinds (rightOf p back)) k (drawnDot dots v k (onFirst p thrown k) c old)
+            ≡ painted dots v (onFirst p thrown k) (c ∷ cellsFrom left kinds (rightOf p back)) k old
+        go true e = step-here e
+        go false e =
+            let away = sym in-row ∙ e in
+            walk-away c (cellsFrom left kinds (rightOf p back)) (onFirst p thrown k) old (onFirst (rightOf p back) next k) e (clear away) (λ one. handed one away)
+
+-- what a character's last column throws on the next, in mode 1
+pub hands-character : (font : List ℕ) (v : View) (k : ℕ) (p : Pen) (cut : Cut v p) (colour code : ℕ) (blink : Bool) → v .mode ≡ 1 → p .x .0 + 12 * p .size ≤ k → k < p .x .0 + 13 * p .size
+    → throws (fontDot font) v k (record { left = p .x; top = p .y; size = p .size; background = p .background; shows = character colour code blink })
+    ≡ bitSet (aboveRow font v code blink ((v .line .0 - p .y .0) / p .size)) 11
+unfolding shadowOf
+hands-character font v k p cut colour code blink one lo hi =
+    let j : ℕ = (k - p .x .0) / p .size in
+    let last : j ≡ 12 = part-at 12 (p .size) (k - p .x .0) (omega arith) (omega arith) in
+    shade-at font v code blink ((v .line .0 - p .y .0) / p .size) j one (row-within v p cut) (omega arith)
+    ∙ ap (shadeSet (aboveRow font v code blink ((v .line .0 - p .y .0) / p .size)) false) last
+
+-- the walk past a row above the line: where its cells stand does not matter
+module _ (dots : Drawn) (v : View) (left : Dots) (k old : ℕ) where
+  abbrev Above : Pen → Type 0
+  Above p = p .y .0 + cellRows * p .size ≤ v .line .0
+
+  past-cell-above : (c : Cell) (cs : List Cell) → c .top .0 + cellRows * c .size ≤ v .line .0 → painted dots v false (c ∷ cs) k old ≡ painted dots v false cs k old
+  past-cell-above c cs above =
+      walk-past dots v k c cs false old (cell-above 12 18 (v .line .0) k (c .left .0) (c .top .0) (c .size) above) (throws-not dots v k c (λ r. omega arith))
+
+  abbrev Same : List Kind → Pen → Pen → Type 0
+  Same kinds p q = painted dots v false (cellsFrom left kinds p) k old ≡ painted dots v false (cellsFrom left kinds q) k old
+
+  abbrev pub moved : Pen → Dots → ℕ → Pen
+  moved p x back = record { x = x; y = p .y; size = p .size; background = back }
+
+  any-kind : (kd : Kind) (kinds : List Kind) (p : Pen) (x x′ : Dots) → Above p → ((y y′ : Dots) (back : ℕ) → Same kinds (moved p y back) (moved p y′ back)) → Same (kd ∷ kinds) (moved p x (p .background)) (moved p x′ (p .background))
+  unfolding cellsFrom kindCell afterWord
+  any-kind (Character colour code blink) kinds p x x′ above rest =
+      past-cell-above _ (cellsFrom left kinds (rightOf (moved p x (p .background)) (p .background))) above
+      ∙ rest _ _ (p .background)
+      ∙ sym (past-cell-above _ (cellsFrom left kinds (rightOf (moved p x′ (p .background)) (p .background))) above)
+  any-kind (Space own) kinds p x x′ above rest =
+      past-cell-above _ (cellsFrom left kinds (rightOf (moved p x (p .background)) own)) above
+      ∙ rest _ _ own
+      ∙ sym (past-cell-above _ (cellsFrom left kinds (rightOf (moved p x′ (p .background)) own)) above)
+  any-kind (Return next spacing) kinds p x x′ above rest = refl
+  any-kind End kinds p x x′ above rest = refl
+
+  anywhere : (kinds : List Kind) (p : Pen) (x x′ : Dots) (back : ℕ) → Above p → Same kinds (moved p x back) (moved p x′ back)
+  unfolding cellsFrom
+  anywhere [] p x x′ back above = refl
+  anywhere (kd ∷ kinds) p x x′ back above = any-kind kd kinds (record { x = x; y = p .y; size = p .size; background = back }) x x′ above (λ y y′ b. anywhere kinds p y y′ b above)
+
+  -- a word of such a row
+  pub passed-character : (colour code : ℕ) (blink : Bool) (kinds : List Kind) (p : Pen) → Above p → painted dots v false (cellsFrom left (Character colour code blink ∷ kinds) p) k old ≡ painted dots v false (cellsFrom left kinds p) k old
+  unfolding cellsFrom kindCell afterWord
+  passed-character colour code blink kinds p above = past-cell-above _ (cellsFrom left kinds (rightOf p (p .background))) above ∙ anywhere kinds p _ (p .x) (p .background) above
+
+  pub passed-space : (own : ℕ) (kinds : List Kind) (p : Pen) → Above p → painted dots v false (cellsFrom left (Space own ∷ kinds) p) k old ≡ painted dots v false (cellsFrom left kinds (moved p (p .x) own)) k old
+  unfolding cellsFrom kindCell afterWord
+  passed-space own kinds p above = past-cell-above _ (cellsFrom left kinds (rightOf p own)) above ∙ anywhere kinds p _ (p .x) own above

@@ -11,14 +11,14 @@ use borrow.Author.Tests.{eq-eqb, ne-eqb}
 use lib.ListN.{length, take, drop, replicate}
 use lib.Seq.{length-take-le}
 use Rattle.laws.specs.Said.{Said}
-use Rattle.laws.specs.Lines.{overlay}
+use Rattle.laws.specs.Lines.{overlay, firstShown, anyOf}
 use Rattle.laws.specs.Lists.{tabulate}
 use Rattle.laws.proofs.Overlay.{overlay-filled}
 use Rattle.laws.proofs.Lists.{tabulate-same, tabulate-constant}
 use Rattle.font.specs.Font.{fontDot}
 use Rattle.units.specs.declared.Dots.{Dots}
 use Rattle.units.specs.declared.Lines.{Lines}
-use Rattle.modes.specs.Modes.{video, outsideByte, litIn}
+use Rattle.modes.specs.Modes.{video, groundByte, litIn}
 use Rattle.judging.specs.declared.Settings.{Settings}
 use Rattle.judging.specs.declared.Painted.{Painted}
 use Rattle.judging.specs.declared.Painted.the-variants.{Done}
@@ -26,29 +26,36 @@ use Rattle.judging.specs.Judging.{answerOf, said}
 use Rattle.judging.proofs.Accepted.{accepted-done, done-is, not-done}
 use Rattle.judging.proofs.Painted.{the-type}
 use Rattle.display.specs.declared.View.{View}
-use Rattle.display.specs.Words.{kindsOf}
-use Rattle.display.specs.Cells.{rowPen}
-use Rattle.display.specs.Picture.{dotAt}
+use Rattle.words.specs.Words.{kindsOf}
+use Rattle.display.specs.Cells.{Cell}
+use Rattle.display.specs.Picture.{Drawn, has, throws, cellDot, dotAt}
 use Rattle.display.specs.Painting.{firstDot, firstLine, screenOf, viewOf, dotOf, lineOf, leftBy}
 use Rattle.display.specs.Steps.{painted, Usable}
-use Rattle.display.proofs.Join.{joined}
+use Rattle.display.proofs.Shadow.{fallen-ground}
+
+-- cells painted over what is outside every cell show what the account says
+joined : (dots : Drawn) (v : View) (start : ℕ) (cs : List Cell) (k : ℕ) → painted dots v false cs k (groundByte (v .mode) false false start) ≡ dotAt dots v start cs k
+unfolding dotAt
+joined dots v start cs k =
+    let shaded = anyOf (throws dots v k) cs in
+    ap (firstShown (has v k) (cellDot dots v shaded k) cs) (fallen-ground v shaded start)
 
 -- a line of outside bytes, painted over by the cells in turn; of settings that are usable every bit counts
 pub on-line : (words font : List ℕ) (s : Settings) (frame : ℕ) (line : Lines) (lit : Bool) (n other : ℕ) (mid last : List ℕ) → Usable words font s → lit ≡ litIn (s .ratio % 4) (s .frequency % 4) frame
-    → other ≡ outsideByte (s .mode) (s .colour % 8) → mid ≡ replicate n other
-    → last ≡ overlay (painted font (record { left = firstDot s; line = line; mode = s .mode; lit = lit }) (screenOf (kindsOf words) s)) mid
+    → other ≡ groundByte (s .mode) false false (s .colour % 8) → mid ≡ replicate n other
+    → last ≡ overlay (painted (fontDot font) (record { left = firstDot s; line = line; mode = s .mode; lit = lit }) false (screenOf (kindsOf words) s)) mid
     → last ≡ tabulate n (dotAt (fontDot font) (viewOf s frame line) (s .colour) (screenOf (kindsOf words) s))
-unfolding dotAt
 on-line words font s frame line lit n other mid last usable blink shade filled walked =
     let colour : s .colour % 8 ≡ s .colour = omega (arith, usable .colour) in
     let ratio : s .ratio % 4 ≡ s .ratio = omega (arith, usable .ratio) in
     let frequency : s .frequency % 4 ≡ s .frequency = omega (arith, usable .frequency) in
     let view : Bool → View = λ b. record { left = firstDot s; line = line; mode = s .mode; lit = b } in
+    let cs = screenOf (kindsOf words) s in
     walked
-    ∙ ap (λ (t : List ℕ). overlay (painted font (view lit) (screenOf (kindsOf words) s)) t) (filled ∙ ap (λ (b : ℕ). replicate n b) (shade ∙ ap (outsideByte (s .mode)) colour))
-    ∙ overlay-filled (painted font (view lit) (screenOf (kindsOf words) s)) (outsideByte (s .mode) (s .colour)) n
-    ∙ tabulate-same n _ _ (λ k lt. joined (view lit) (firstDot s) k font (kindsOf words) (rowPen (firstDot s) (firstLine s) 1 (s .colour)) (outsideByte (s .mode) (s .colour)))
-    ∙ ap (λ (b : Bool). tabulate n (dotAt (fontDot font) (view b) (s .colour) (screenOf (kindsOf words) s))) (blink ∙ ap (λ (q : ℕ). litIn q (s .frequency % 4) frame) ratio ∙ ap (λ (q : ℕ). litIn (s .ratio) q frame) frequency)
+    ∙ ap (λ (t : List ℕ). overlay (painted (fontDot font) (view lit) false cs) t) (filled ∙ ap (λ (b : ℕ). replicate n b) (shade ∙ ap (groundByte (s .mode) false false) colour))
+    ∙ overlay-filled (painted (fontDot font) (view lit) false cs) (groundByte (s .mode) false false (s .colour)) n
+    ∙ tabulate-same n _ _ (λ k lt. joined (fontDot font) (view lit) (s .colour) cs k)
+    ∙ ap (λ (b : Bool). tabulate n (dotAt (fontDot font) (view b) (s .colour) cs)) (blink ∙ ap (λ (q : ℕ). litIn q (s .frequency % 4) frame) ratio ∙ ap (λ (q : ℕ). litIn (s .ratio) q frame) frequency)
 
 -- the first n bytes
 pub part-there : (n : ℕ) (out : List ℕ) → n ≤ length out → n ≡ length (take n out)

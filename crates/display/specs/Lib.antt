@@ -1,4 +1,3 @@
-pub mod Words
 pub mod Cells
 pub mod Picture
 pub mod Painting

@@ -1,13 +1,13 @@
--- What a screen shows at a dot: document 01, 'From words to dots'. The table of modes and blinking are `Modes` of crate modes.
+-- What a screen shows at a dot: document 01, 'From words to dots', and the shadow of M-101. The table of modes and blinking are `Modes` of crate modes.
 -- Assumes nothing.
 use Prim.Native.Nat.{ℕ, _-_, _/_}
 use mathlib.Core.List.{List}
 use mathlib.Core.Bool.{Bool, true, false}
 use Rattle.laws.specs.Pick.{pick, both}
-use Rattle.laws.specs.Lines.{firstShown}
-use Rattle.laws.specs.Placing.{cellHas}
+use Rattle.laws.specs.Lines.{firstShown, anyOf}
+use Rattle.laws.specs.Placing.{spanHas, cellHas}
 use Rattle.font.specs.Font.{cellRows, cellColumns}
-use Rattle.modes.specs.Modes.{inColour, unlitByte, outsideByte}
+use Rattle.modes.specs.Modes.{inColour, groundByte}
 use Rattle.display.specs.declared.View.{View}
 use Rattle.display.specs.Cells.{Shown, character, space, Cell}
 
@@ -20,21 +20,45 @@ abbrev pub steadyOr : Bool → Bool → Bool
 steadyOr true lit = lit
 steadyOr false lit = true
 
+-- whether a character's dot in a row and a column is lit
+abbrev pub litAt : Drawn → View → ℕ → Bool → ℕ → ℕ → Bool
+litAt dots v code blink l j = both (steadyOr blink (v .lit)) (dots code l j)
+
 -- whether the cell has dot k of the line
 abbrev pub has : View → ℕ → Cell → Bool
 has v k c = cellHas cellColumns cellRows (c .left .0) (c .top .0) (c .size) (v .line .0) k
 
--- dot k of the line in a cell that has it: a cell of size s shows each dot of its character s dots wide and s lines high
-unfoldable pub shownDot : Drawn → View → ℕ → Cell → Shown → ℕ
-shownDot dots v k c (character colour code blink) =
-    pick (both (steadyOr blink (v .lit)) (dots code ((v .line .0 - c .top .0) / c .size) ((k - c .left .0) / c .size)))
-    (inColour colour)
-    (unlitByte (v .mode) (c .background))
-shownDot dots v k c space = unlitByte (v .mode) (c .background)
+-- the row and the column of a cell, counted from its top and its left side on: a cell of size s shows each dot of its character s dots wide and s lines high
+abbrev pub rowIn : View → Cell → ℕ
+rowIn v c = (v .line .0 - c .top .0) / c .size
 
-abbrev pub cellDot : Drawn → View → ℕ → Cell → ℕ
-cellDot dots v k c = shownDot dots v k c (c .shows)
+abbrev pub columnIn : ℕ → Cell → ℕ
+columnIn k c = (k - c .left .0) / c .size
 
--- dot k of the line: what the cell that has it shows, else what is outside every cell
+-- whether a cell throws its shadow on dot k of the line: where the dot of its character one row above and one column to the left is lit. The shadow falls on the rows
+-- after the cell's first, and so not on the line below its last; and on the columns after its first, of which the last is next to the cell: the first
+-- column of the cell after it, or of what comes after the row.
+unfoldable pub shadowOf : Drawn → View → ℕ → Cell → Shown → Bool
+shadowOf dots v k c (character colour code blink) =
+    both (spanHas 1 (cellRows - 1) (rowIn v c)) (both (spanHas 1 cellColumns (columnIn k c)) (litAt dots v code blink (rowIn v c - 1) (columnIn k c - 1)))
+shadowOf dots v k c space = false
+
+abbrev pub throws : Drawn → View → ℕ → Cell → Bool
+throws dots v k c = shadowOf dots v k c (c .shows)
+
+-- dot k of the line in a cell that has it, in a shadow or not
+unfoldable pub shownDot : Drawn → View → Bool → ℕ → Cell → Shown → ℕ
+shownDot dots v shaded k c (character colour code blink) =
+    pick (litAt dots v code blink (rowIn v c) (columnIn k c)) (inColour colour) (groundByte (v .mode) true shaded (c .background))
+shownDot dots v shaded k c space = groundByte (v .mode) true shaded (c .background)
+
+abbrev pub cellDot : Drawn → View → Bool → ℕ → Cell → ℕ
+cellDot dots v shaded k c = shownDot dots v shaded k c (c .shows)
+
+-- dot k of the line where a shadow falls on it or none does: what the cell that has it shows, else what is outside every cell
+abbrev pub shadedDot : Drawn → View → ℕ → List Cell → ℕ → Bool → ℕ
+shadedDot dots v start cs k shaded = firstShown (has v k) (cellDot dots v shaded k) cs (groundByte (v .mode) false shaded start)
+
+-- dot k of the line: in a shadow where one of the cells throws it there
 unfoldable pub dotAt : Drawn → View → ℕ → List Cell → ℕ → ℕ
-dotAt dots v start cs k = firstShown (has v k) (cellDot dots v k) cs (outsideByte (v .mode) start)
+dotAt dots v start cs k = shadedDot dots v start cs k (anyOf (throws dots v k) cs)

@@ -1,52 +1,66 @@
--- What the painter's own steps do, for the contracts of its private functions: no part of the account. proofs/Join.antt joins it to the
+-- What the painter's own steps do, for the contracts of its private functions: no part of the account. proofs/Walk.antt joins it to the
 -- account's list of cells.
 -- Assumes nothing.
-use Prim.Native.Nat.{ℕ, suc, _+_, _-_, _*_, _/_, _≤_, _<_}
+use Prim.Native.Nat.{ℕ, _+_, _-_, _*_, _%_, _≤_, _<_}
 use mathlib.Core.Path.{_≡_}
-use mathlib.Core.List.{List, [], _∷_}
-use mathlib.Core.Bool.{Bool}
-use Rattle.laws.specs.Pick.{pick}
-use Rattle.laws.specs.Lines.{lastShown}
-use lib.ListN.{length}
-use Rattle.font.specs.Font.{fontCells, fontRows, cellRows, cellColumns, rowOf, fontDot}
+use mathlib.Core.List.{List}
+use mathlib.Core.Bool.{Bool, true, false}
+use lib.Dec.{eqb, ltb}
+use lib.ListN.{length, getD}
+use Rattle.laws.specs.Pick.{pick, both, either}
+use Rattle.laws.specs.Lines.{firstShown, anyOf}
+use Rattle.laws.specs.Placing.{spanHas}
+use Rattle.font.specs.Font.{fontCells, fontRows, cellRows, cellColumns, rowOf}
 use Rattle.units.specs.declared.Lines.{Lines}
+use Rattle.modes.specs.Modes.{inColour, black, groundByte}
 use Rattle.judging.specs.declared.Settings.{Settings}
 use Rattle.judging.specs.Judging.{wordCount, mostColour, mostPlace, mostFrequency}
+use Rattle.words.specs.declared.Kind.{Kind}
+use Rattle.words.specs.declared.Kind.the-variants.{Character, Space, Return, End}
+use Rattle.stretch.specs.declared.Row.{Row}
+use Rattle.stretch.specs.declared.Ink.{Ink}
 use Rattle.display.specs.declared.Pen.{Pen}
 use Rattle.display.specs.declared.View.{View}
-use Rattle.display.specs.declared.Placed.{Placed}
-use Rattle.display.specs.declared.Kind.{Kind}
-use Rattle.display.specs.declared.Kind.the-variants.{Character, Space, Return, End}
-use Rattle.display.specs.declared.RowEnd.{RowEnd}
-use Rattle.display.specs.declared.RowEnd.the-variants.{Over, Next}
-use Rattle.display.specs.Words.{kindOf}
 use Rattle.display.specs.Cells.{Cell}
-use Rattle.display.specs.Picture.{has, cellDot, steadyOr}
+use Rattle.display.specs.Picture.{Drawn, has, throws, cellDot, steadyOr}
 
--- dot k after the cells have painted over it in turn
-abbrev pub painted : List ℕ → View → List Cell → ℕ → ℕ → ℕ
-painted font v cs k old = lastShown (has v k) (cellDot (fontDot font) v k) cs old
+-- dot k outside every cell, where a shadow falls on it or none does; `old` is what it was
+abbrev pub fallen : View → Bool → ℕ → ℕ
+fallen v shaded old = pick (both (eqb (v .mode) 1) shaded) (inColour black) old
 
--- the 12 bits that a character shows on the line: none while it is blinked out
-abbrev pub shownBits : List ℕ → View → Lines → ℕ → ℕ → Bool → ℕ
-shownBits font v y size code blink = pick (steadyOr blink (v .lit)) (rowOf font code ((v .line .0 - y .0) / size)) 0
+-- dot k after these cells were painted over the line; `before` tells whether a cell before them throws its shadow on the dot
+abbrev pub paintedIn : Drawn → View → List Cell → ℕ → ℕ → Bool → ℕ
+paintedIn dots v cs k old shaded = firstShown (has v k) (cellDot dots v shaded k) cs (fallen v shaded old)
 
--- where a row ends: one word further
-abbrev pub later : RowEnd → RowEnd
-later Over = Over
-later (Next read size spacing background) = Next (suc read) size spacing background
+abbrev pub painted : Drawn → View → Bool → List Cell → ℕ → ℕ → ℕ
+painted dots v before cs k old = paintedIn dots v cs k old (either before (anyOf (throws dots v k) cs))
 
--- by the row's first word, and where the rest of the row ends after a space and after a character
-abbrev pub endAt : Kind → ℕ → (ℕ → RowEnd) → RowEnd
-endAt (Character colour code blink) back rest = later (rest back)
-endAt (Space own) back rest = later (rest own)
-endAt (Return size spacing) back rest = Next 1 size spacing back
-endAt End back rest = Over
+-- what the cell before the pen throws falls on the first column there
+abbrev pub onFirst : Pen → Bool → ℕ → Bool
+onFirst p thrown k = both thrown (spanHas (p .x .0) (p .size) k)
 
--- how many words a row takes with its return, what the return says, and the background by then
-unfoldable pub rowEnd : List ℕ → ℕ → RowEnd
-rowEnd [] back = Over
-rowEnd (w ∷ ws) back = endAt (kindOf w) back (λ b. rowEnd ws b)
+-- the 12 bits that a character shows in a row: none while it is blinked out
+abbrev pub shownRow : List ℕ → View → ℕ → Bool → ℕ → ℕ
+shownRow font v code blink l = pick (steadyOr blink (v .lit)) (rowOf font code l) 0
+
+-- the bits of the row above row l, which stands at this place of the font: in mode 1, and below a first row
+abbrev pub aboveAt : List ℕ → ℕ → ℕ → ℕ → ℕ
+aboveAt font mode at l = pick (eqb mode 1) (pick (ltb 0 l) (getD font (at - 1) 0) 0) 0
+
+-- those of a character: none while it is blinked out
+abbrev pub aboveRow : List ℕ → View → ℕ → Bool → ℕ → ℕ
+aboveRow font v code blink l = pick (steadyOr blink (v .lit)) (aboveAt font (v .mode) (cellRows * code + l) l) 0
+
+abbrev pub rowShown : List ℕ → View → ℕ → Bool → ℕ → Bool → Row
+rowShown font v code blink l thrown = record { bits = shownRow font v code blink l; above = aboveRow font v code blink l; before = thrown }
+
+-- the bytes of a cell
+abbrev pub inkOf : ℕ → ℕ → ℕ → Ink
+inkOf mode on background = record { on = on; shade = groundByte mode true true (background % 8); off = groundByte mode true false (background % 8) }
+
+-- dot k at the end of a row, after what its last cell throws has fallen on it
+abbrev pub endOf : Pen → Bool → ℕ → ℕ → ℕ
+endOf p thrown k old = pick (onFirst p thrown k) (inColour black) old
 
 -- the largest size of a row, and spacing; and a place that no word reaches
 abbrev pub mostSize : ℕ
@@ -64,19 +78,6 @@ Sound (Character colour code blink) = (colour ≤ mostColour) × (code < fontCel
 Sound (Space own) = own ≤ mostColour
 Sound (Return size spacing) = (1 ≤ size) × ((size ≤ mostSize) × (spacing .0 ≤ mostSpacing))
 Sound End = Unit
-
--- what the end of a row says is in range, and its words are there
-pub record NextSound (n read next : ℕ) (gap : Lines) (back : ℕ) : Type 0 where
-  pub some : 1 ≤ read
-  pub there : read ≤ n
-  pub high : 1 ≤ next
-  pub size : next ≤ mostSize
-  pub spacing : gap .0 ≤ mostSpacing
-  pub colour : back ≤ mostColour
-
-abbrev pub EndSound : ℕ → RowEnd → Type 0
-EndSound n Over = Unit
-EndSound n (Next read size spacing background) = NextSound n read size spacing background
 
 -- what `paint_line` asks: words, a font, and settings that the painter's arithmetic takes
 pub record Usable (ws font : List ℕ) (s : Settings) : Type 0 where
@@ -97,34 +98,17 @@ pub record Room (v : View) (p : Pen) (n : ℕ) : Type 0 where
   pub size : p .size ≤ mostSize
   pub colour : p .background ≤ mostColour
 
--- the line cuts a row of this size at y
-pub record Cut (v : View) (y : Lines) (size : ℕ) : Type 0 where
-  pub from : y .0 ≤ v .line .0
-  pub to : v .line .0 < y .0 + cellRows * size
+-- the line cuts the row where the pen is
+pub record Cut (v : View) (p : Pen) : Type 0 where
+  pub from : p .y .0 ≤ v .line .0
+  pub to : v .line .0 < p .y .0 + cellRows * p .size
 
--- what `row_step` asks, and `cell_step` in the row that the line cuts
+-- what `paint_words` asks, and `paint_row` of the row that the line cuts
+pub record WordsAsk (font : List ℕ) (v : View) (p : Pen) (n : ℕ) : Type 0 where
+  pub rows : length font ≡ fontRows
+  pub room : Room v p n
+
 pub record RowAsks (font : List ℕ) (v : View) (p : Pen) (n : ℕ) : Type 0 where
   pub rows : length font ≡ fontRows
   pub room : Room v p n
-
-pub record CellAsks (font : List ℕ) (v : View) (p : Pen) (n : ℕ) : Type 0 where
-  pub rows : length font ≡ fontRows
-  pub room : Room v p n
-  pub cut : Cut v (p .y) (p .size)
-
--- what `draw` asks: a word that was decoded, in such a row
-pub record DrawAsks (font : List ℕ) (v : View) (c : Placed) (background : ℕ) : Type 0 where
-  pub rows : length font ≡ fontRows
-  pub sound : Sound (c .kind)
-  pub colour : background ≤ mostColour
-  pub some : 1 ≤ c .size
-  pub size : c .size ≤ mostSize
-  pub cut : Cut v (c .y) (c .size)
-
--- what `shown_bits` asks: a character of the font
-pub record BitsAsks (font : List ℕ) (v : View) (y : Lines) (s shown : ℕ) : Type 0 where
-  pub rows : length font ≡ fontRows
-  pub code : shown < fontCells
-  pub some : 1 ≤ s
-  pub size : s ≤ mostSize
-  pub cut : Cut v y s
+  pub cut : Cut v p

@@ -1,8 +1,8 @@
--- Two tests at once: each holds where both do, and both fail where one does. By cases of the tests.
+-- Two tests at once: each holds where both do, and both fail where one does; a test that cannot hold fails; and a choice by a test. By cases of the tests.
 -- Assumes nothing.
 use mathlib.Core.Path.{_≡_, refl, sym, ap, _∙_}
 use mathlib.Core.Bool.{Bool, true, false, false≢true}
-use Rattle.laws.specs.Pick.{both}
+use Rattle.laws.specs.Pick.{pick, both, either}
 
 pub both-parts : (s t : Bool) → both s t ≡ true → (s ≡ true) × (t ≡ true)
 both-parts true t e = (refl, e)
@@ -18,3 +18,21 @@ both-none false = refl
 
 pub none-right : (s t : Bool) → t ≡ false → both s t ≡ false
 none-right s t e = ap (both s) e ∙ both-none s
+
+pub either-none : (s : Bool) → either s false ≡ s
+either-none true = refl
+either-none false = refl
+
+pub fails-unless : (t : Bool) → (t ≡ true → ⊥) → t ≡ false
+fails-unless true none = absurd (none refl)
+fails-unless false none = refl
+
+-- what is chosen matters only where the test holds
+pub pick-where : {A : Type 0} (t : Bool) (a b c : A) → (t ≡ true → a ≡ b) → pick t a c ≡ pick t b c
+pick-where true a b c same = same refl
+pick-where false a b c same = refl
+
+-- a choice between what a test makes of both answers is what it makes of the test's
+pub pick-of : {A : Type 0} (f : Bool → A) (t : Bool) → pick t (f true) (f false) ≡ f t
+pick-of f true = refl
+pick-of f false = refl

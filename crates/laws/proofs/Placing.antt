@@ -1,14 +1,14 @@
 -- Cells placed one after the other never share a dot, for any width and height. Once a cell has been passed, the place where the next
 -- one stands is past each of its dots: to the right in the same row, or in a row below; and it stays past them.
 -- Assumes nothing.
-use mathlib.Core.Path.{_≡_}
+use mathlib.Core.Path.{_≡_, sym, _∙_}
 use mathlib.Core.Bool.{true, false}
 use mathlib.Core.Logic.{_⊎_, inl, inr, ⊎-elim}
 use Prim.Native.Nat.{ℕ, _+_, _*_, _/_, _-_, _<_, _≤_}
-use native.Mathlib.Nat.{div-lt-iff-lt-mul, div-eq-of-lt-le}
+use native.Mathlib.Nat.{div-lt-iff-lt-mul, div-eq-of-lt-le, le-div-iff-mul-le, div-zero, div-eq-of-lt}
 use native.Mathlib.Omega.{arith}
-use borrow.Author.Tests.{leb-true, le-leb, lt-leb, lt-ltb, le-ltb, ltb-true}
-use lib.Dec.{leb, ltb}
+use borrow.Author.Tests.{leb-true, le-leb, lt-leb, lt-ltb, le-ltb, ltb-true, eq-eqb, ne-eqb}
+use lib.Dec.{leb, ltb, eqb}
 use Rattle.laws.specs.Placing.{rowHas, spanHas, cellHas}
 use Rattle.laws.proofs.Both.{both-parts, none-left, none-right}
 use Rattle.laws.proofs.Scan.{split}
@@ -90,6 +90,35 @@ part-at j size i le lt = div-eq-of-lt-le size le (omega arith)
 -- counted from where the parts begin
 pub share-below : (n size at from : ℕ) → from ≤ at → at < from + n * size → (at - from) / size < n
 share-below n size at from le lt = part-below n size (at - from) (omega arith)
+
+-- not in the first part, and in one of the first n
+pub share-in : (n size at from : ℕ) → 1 ≤ (at - from) / size → (at - from) / size < n → (from + size ≤ at) × (at < from + n * size)
+share-in n size at from lo hi = ⊎-elim (λ (some : 1 ≤ size). bounds some) (λ (z : size < 1). absurd (none z)) (split 1 size)
+  where
+    bounds : 1 ≤ size → (from + size ≤ at) × (at < from + n * size)
+    bounds some =
+        let least : 1 * size ≤ at - from = le-div-iff-mul-le some .0 lo in
+        let most : at - from < n * size = div-lt-iff-lt-mul some .0 hi in
+        (omega arith, omega arith)
+    none : size < 1 → ⊥
+    none z =
+        let e : size ≡ 0 = omega arith in
+        let d : 1 ≤ (at - from) / 0 = rw e at lo in
+        omega (arith, div-zero (at - from))
+
+-- in the first part
+pub first-part : (size at from : ℕ) → 1 ≤ size → from ≤ at → spanHas from size at ≡ eqb ((at - from) / size) 0
+first-part size at from some le =
+    ⊎-elim
+    (λ (after : from + size ≤ at). span-after from size at after ∙ sym (ne-eqb _ 0 (later after)))
+    (λ (within : at < from + size). span-in from size at le within ∙ sym (eq-eqb _ 0 (div-eq-of-lt {n = at - from} {m = size} (omega arith))))
+    (split (from + size) at)
+  where
+    later : from + size ≤ at → (at - from) / size ≡ 0 → ⊥
+    later after e =
+        let least : 1 * size ≤ at - from = omega arith in
+        let part : 1 ≤ (at - from) / size = le-div-iff-mul-le some .1 least in
+        omega arith
 
 -- after a word, one word fewer fits: `far` is how far the words may reach, `most` how far one goes at most
 pub room-step : (far most step at n : ℕ) → step ≤ most → at + most * (n + 1) ≤ far → at + step + most * n ≤ far

@@ -2,8 +2,8 @@
 -- Assumes nothing.
 use Prim.Native.Nat.{ℕ, suc, _+_}
 use mathlib.Core.List.{List, [], _∷_}
-use mathlib.Core.Bool.{Bool}
-use Rattle.laws.specs.Pick.{pick}
+use mathlib.Core.Bool.{Bool, false}
+use Rattle.laws.specs.Pick.{pick, either}
 
 -- each dot of a line by its place, counted from b, and by what it was
 unfoldable pub overlayFrom : (ℕ → ℕ → ℕ) → ℕ → List ℕ → List ℕ
@@ -18,10 +18,10 @@ unfoldable pub firstShown : {A : Type 0} → (A → Bool) → (A → ℕ) → Li
 firstShown has shows [] other = other
 firstShown has shows (c ∷ cs) other = pick (has c) (shows c) (firstShown has shows cs other)
 
--- what is there after each of the list in turn has painted it over
-unfoldable pub lastShown : {A : Type 0} → (A → Bool) → (A → ℕ) → List A → ℕ → ℕ
-lastShown has shows [] old = old
-lastShown has shows (c ∷ cs) old = lastShown has shows cs (pick (has c) (shows c) old)
+-- whether one of the list has it
+unfoldable pub anyOf : {A : Type 0} → (A → Bool) → List A → Bool
+anyOf has [] = false
+anyOf has (c ∷ cs) = either (has c) (anyOf has cs)
 
 -- how many of the list have the place
 unfoldable pub holders : {A : Type 0} → (A → Bool) → List A → ℕ

@@ -2,15 +2,11 @@
 -- Assumes nothing.
 use mathlib.Core.Path.{refl, sym, _∙_}
 use Rattle.laws.proofs.Determined.{Determines, both-say}
-use Rattle.modes.proofs.unlit as unlit
-use Rattle.modes.proofs.outside as outside
+use Rattle.modes.proofs.ground as ground
 use Rattle.modes.proofs.lit as lit
 
-pub unlit-unique : Determines unlit.ended (λ w. unlit.clauses (w .𝓤) (w .H) (w .𝓖 .A) (w .𝓜 .mem) (w .𝓡 .run))
-unlit-unique w κs a g g′ r r′ ws ws′ = both-say w (λ p q. (p ∙ sym q, refl))
-
-pub outside-unique : Determines outside.ended (λ w. outside.clauses (w .𝓤) (w .H) (w .𝓖 .A) (w .𝓜 .mem) (w .𝓡 .run))
-outside-unique w κs a g g′ r r′ ws ws′ = both-say w (λ p q. (p ∙ sym q, refl))
+pub ground-unique : Determines ground.ended (λ w. ground.clauses (w .𝓤) (w .H) (w .𝓖 .A) (w .𝓜 .mem) (w .𝓡 .run))
+ground-unique w κs a g g′ r r′ ws ws′ = both-say w (λ p q. (p ∙ sym q, refl))
 
 pub lit-unique : Determines lit.ended (λ w. lit.clauses (w .𝓤) (w .H) (w .𝓖 .A) (w .𝓜 .mem) (w .𝓡 .run))
 lit-unique w κs a g g′ r r′ ws ws′ = both-say w (λ p q. (p ∙ sym q, refl))

@@ -1,20 +1,18 @@
-// The table of modes, and blinking: what an unlit dot, a space and the outside show, and when a blinking character is lit.
+// The table of modes, and blinking: what shows where no character is lit, and when a blinking character is lit.
 ghost use mathlib.Core.Path.{_≡_};
 ghost use Prim.Native.Nat.{_%_, _≤_, _<_};
-ghost use Rattle.modes.specs.Modes.{unlitByte, outsideByte, divisorOf, litIn};
+ghost use Rattle.modes.specs.Modes.{groundByte, divisorOf, litIn};
 
-// An unlit dot of a cell, and each dot of a space. Of a colour the three low bits count, and a mode above 3 counts as 3.
-pub fn unlit(mode: u32, background: u8) -> u8
-    ensures { λ r. ⌜ r ≡ unlitByte mode (background % 8) ⌝ }
+// What a dot shows that no character lights, in a cell or outside every cell, in a shadow or not. Of a colour the three low bits count, and a mode above 3 counts as 3.
+pub fn ground(mode: u32, inside: bool, shaded: bool, back: u8) -> u8
+    ensures { λ r. ⌜ r ≡ groundByte mode inside shaded (back % 8) ⌝ }
 {
-    if mode <= 1 { 0 } else { 8 + background % 8 }
-}
-
-// A dot outside every cell, by the same bits and modes.
-pub fn outside(mode: u32, start: u8) -> u8
-    ensures { λ r. ⌜ r ≡ outsideByte mode (start % 8) ⌝ }
-{
-    if mode <= 2 { 0 } else { 8 + start % 8 }
+    match mode {
+        0 => 0,
+        1 => if shaded { 8 } else { 0 },
+        2 => if inside { 8 + back % 8 } else { 0 },
+        _ => 8 + back % 8,
+    }
 }
 
 // Whether this frame is in the lit part of a blinking character. Of ratio and frequency the two low bits count; with ratio 3 no frame is lit.

@@ -1,16 +1,23 @@
 -- Dots painted one after the other, and dots beyond the line's end, which are cut.
 -- Assumes nothing.
-use mathlib.Core.Path.{_≡_, sym, ap, _∙_}
+use mathlib.Core.Path.{_≡_, refl, sym, ap, _∙_}
 use mathlib.Core.List.{List}
-use Prim.Native.Nat.{ℕ, _+_, _*_, _/_, _<_, _≤_}
+use mathlib.Core.Bool.{Bool, true, false}
+use Prim.Native.Nat.{ℕ, _+_, _-_, _*_, _/_, _<_, _≤_}
 use native.Mathlib.Omega.{arith}
+use borrow.Author.Tests.{ne-eqb}
+use lib.Dec.{eqb}
 use lib.ListN.{length, set}
 use Rattle.laws.specs.Lines.{overlay}
-use Rattle.laws.specs.Placing.{patched}
+use Rattle.laws.specs.Pick.{pick}
+use Rattle.laws.specs.Placing.{spanHas, patched}
 use Rattle.laws.proofs.Overlay.{overlay-leaves, overlay-same, overlay-twice, overlay-store, overlay-ext}
 use Rattle.laws.proofs.Patched.{patched-none, patched-here, patched-other, patched-more, patched-cut}
 use Rattle.laws.proofs.Placing.{part-at}
-use Rattle.stretch.specs.Stretch.{bitByte, stretched}
+use Rattle.font.specs.Font.{bitSet}
+use Rattle.stretch.specs.declared.Row.{Row}
+use Rattle.stretch.specs.declared.Ink.{Ink}
+use Rattle.stretch.specs.Stretch.{shadeSet, toneOf, columnByte, stretched}
 
 -- one dot more is painted
 pub patch-more : (from i : ℕ) (shows : ℕ → ℕ) (out₀ out : List ℕ) → out ≡ overlay (patched from i shows) out₀ → from + i < length out₀
@@ -56,14 +63,38 @@ patch-cut from i n shows out last le end laid =
     laid ∙ overlay-ext (patched from i shows) (patched from n shows) 0 out (λ k old lo hi. patched-cut from shows i n k old le (omega arith))
 
 -- a column more: `size` dots of its byte, after j columns of as many
-pub column-more : (from size bits on off j byte : ℕ) (out₀ out next : List ℕ) → out ≡ overlay (stretched from (j * size) size bits on off) out₀ → byte ≡ bitByte bits j on off
-    → next ≡ overlay (patched (from + j * size) size (λ d. byte)) out → next ≡ overlay (stretched from ((j + 1) * size) size bits on off) out₀
-column-more from size bits on off j byte out₀ out next before is laid =
-    let shows : ℕ → ℕ = λ d. bitByte bits (d / size) on off in
+pub column-more : (from size : ℕ) (byteAt : ℕ → ℕ) (j byte : ℕ) (out₀ out next : List ℕ) → out ≡ overlay (patched from (j * size) (λ d. byteAt (d / size))) out₀ → byte ≡ byteAt j
+    → next ≡ overlay (patched (from + j * size) size (λ d. byte)) out → next ≡ overlay (patched from ((j + 1) * size) (λ d. byteAt (d / size))) out₀
+column-more from size byteAt j byte out₀ out next before is laid =
+    let shows : ℕ → ℕ = λ d. byteAt (d / size) in
     let more : j * size + size ≡ (j + 1) * size = omega arith in
     laid
     ∙ ap (λ (t : List ℕ). overlay (patched (from + j * size) size (λ d. byte)) t) before
     ∙ overlay-twice (patched from (j * size) shows) (patched (from + j * size) size (λ d. byte)) 0 out₀
     ∙ overlay-same _ (patched from (j * size + size) shows) out₀ (λ k old. patched-more from shows (j * size) size byte k old
-    (λ d le lt. is ∙ ap (λ (q : ℕ). bitByte bits q on off) (sym (part-at j size d le lt))))
+    (λ d le lt. is ∙ ap byteAt (sym (part-at j size d le lt))))
     ∙ ap (λ (m : ℕ). overlay (patched from m shows) out₀) more
+
+-- the shadow on a column after the first is thrown by the one before it
+pub shade-next : (above : ℕ) (before : Bool) (j : ℕ) → shadeSet above before (j + 1) ≡ bitSet above j
+shade-next above before j =
+    let some : eqb (j + 1) 0 ≡ false = omega (arith, ne-eqb) in
+    let back : j + 1 - 1 ≡ j = omega arith in
+    rw (some, back)
+
+-- a row whose bytes are all one, be its dots set, in the shadow or neither
+one-byte : (set shaded : Bool) (byte : ℕ) → toneOf set shaded (record { on = byte; shade = byte; off = byte }) ≡ byte
+one-byte true shaded byte = refl
+one-byte false true byte = refl
+one-byte false false byte = refl
+
+pub one-tone : (from n size byte : ℕ) (row : Row) (out : List ℕ) → overlay (stretched from n size row (record { on = byte; shade = byte; off = byte })) out ≡ overlay (patched from n (λ d. byte)) out
+unfolding patched
+one-tone from n size byte row out =
+    overlay-same _ _ out (λ k old. ap (λ (b : ℕ). pick (spanHas from n k) b old)
+    (one-byte (bitSet (row .bits) ((k - from) / size)) (shadeSet (row .above) (row .before) ((k - from) / size)) byte))
+
+-- a column's byte, by its bit and by whether the shadow falls on it
+pub column-is : (row : Row) (ink : Ink) (j byte : ℕ) (set shaded : Bool) → byte ≡ toneOf set shaded ink → set ≡ bitSet (row .bits) j → shaded ≡ shadeSet (row .above) (row .before) j
+    → byte ≡ columnByte row ink j
+column-is row ink j byte set shaded tone bit shade = tone ∙ ap (λ (t : Bool). toneOf t shaded ink) bit ∙ ap (λ (t : Bool). toneOf (bitSet (row .bits) j) t ink) shade

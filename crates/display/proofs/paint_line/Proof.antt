@@ -1,4 +1,4 @@
--- `display::paint_line`: a line of outside bytes, painted over by the cells in turn, is by `joined` the line of the account.
+-- `display::paint_line`: a line of outside bytes, painted over by the cells, is the line of the account.
 -- Assumes nothing.
 use native.Mathlib.Omega.{arith}
 use Rattle.display.proofs.Whole.{on-line}
@@ -25,14 +25,14 @@ mul-y c = search needs
 cast-start : tie.Need-cast-start
 cast-start c = search needs
 
-outside-requires : tie.Need-outside-requires
-outside-requires c κs = search needs
+ground-requires : tie.Need-ground-requires
+ground-requires c κs = search needs
 
 fill-requires : tie.Need-fill-requires
 fill-requires c κs = search needs
 
-row-step-requires : tie.Need-row-step-requires
-row-step-requires c κs =
+paint-words-requires : tie.Need-paint-words-requires
+paint-words-requires c κs =
     let pre = (let s : tie.Start = search in s .pre) in
     record { rows = pre .rows; room = record { start = omega arith; right = omega arith; down = omega arith; some = omega arith; size = omega arith; colour = omega arith } }
 
@@ -41,9 +41,9 @@ same-length c = search needs
 
 returns : tie.Need-returns
 returns c =
-    let walked = (let r : tie.After-row-step = search in r .row-step .ensures) in
+    let walked = (let r : tie.After-paint-words = search in r .paint-words .ensures) in
     let filled = (let f : tie.After-fill = search in f .fill .ensures) in
-    let other = (let o : tie.After-outside = search in o .outside .ensures) in
+    let other = (let o : tie.After-ground = search in o .ground .ensures) in
     let blink = (let b : tie.After-lit = search in b .lit .ensures) in
     let usable = (let s : tie.Start = search in s .pre) in
     let a = (let s : tie.Start = search in s .args) in
@@ -59,8 +59,8 @@ paint-line-spec =
     cast-y
     mul-y
     cast-start
-    outside-requires
+    ground-requires
     fill-requires
-    row-step-requires
+    paint-words-requires
     same-length
     returns)

@@ -1,32 +1,37 @@
--- `stretch::by_columns`. The loop's invariant: the first j columns are painted, each `size` dots wide.
+-- `stretch::by_columns`. The loop's invariant: the first j columns are painted, each `size` dots wide, and whether the shadow falls on the next is known.
 -- Assumes nothing.
 use Prim.Native.Nat.{ℕ, _+_, _-_, _*_, _/_, _≤_}
-use mathlib.Core.Path.{_≡_, refl, ap, _∙_}
+use mathlib.Core.Path.{_≡_, refl, sym, ap, _∙_}
 use native.Mathlib.Omega.{arith}
 use native.Mathlib.Nat.{mul-le-mul, le-refl}
+use borrow.Author.Needs.{needs}
 use lib.ListN.{length}
 use Rattle.laws.specs.Lines.{overlay}
 use Rattle.laws.proofs.Overlay.{overlay-length}
-use Rattle.stretch.specs.Stretch.{bitByte, stretched}
-use Rattle.stretch.proofs.Dots.{patch-none, column-more}
+use Rattle.stretch.specs.Stretch.{shadeSet, columnByte, stretched}
+use Rattle.stretch.proofs.Dots.{patch-none, column-more, column-is, shade-next}
 use Rattle.stretch.proofs.by_columns.Statement.{statement}
 use Rattle.stretch.proofs.by_columns.Tie as tie
 
 abbrev Inv-loop : tie.InvT-loop
-Inv-loop out₀ from size bits on off j₀ out j = (j ≤ 12) × ((out ≡ overlay (stretched from (j * size) size bits on off) out₀) × (length out ≡ length out₀))
+Inv-loop out₀ from size row ink shaded₀ j₀ out shaded j = (j ≤ 12) × ((shaded ≡ shadeSet (row .above) (row .before) j) × ((out ≡ overlay (stretched from (j * size) size row ink) out₀) × (length out ≡ length out₀)))
 
 abbrev μ-loop : tie.MeasureT-loop
-μ-loop out₀ from size bits on off j₀ out j = 12 - j
+μ-loop out₀ from size row ink shaded₀ j₀ out shaded j = 12 - j
 
 loop-holds : tie.Need-loop-holds Inv-loop μ-loop
 loop-holds c =
     let a = (let s : tie.Start Inv-loop μ-loop = search in s .args) in
-    let none : 0 ≡ 0 * a .size = omega arith in (
+    let none : 0 ≡ 0 * a .size = omega arith in
+    (
       omega arith,
       (
-        patch-none (a .from) (λ d. bitByte (a .bits) (d / a .size) (a .on) (a .off)) (a .out .now)
-            ∙ ap (λ (m : ℕ). overlay (stretched (a .from) m (a .size) (a .bits) (a .on) (a .off)) (a .out .now)) none,
         refl,
+        (
+          patch-none (a .from) (λ d. columnByte (a .row) (a .ink) (d / a .size)) (a .out .now)
+              ∙ ap (λ (m : ℕ). overlay (stretched (a .from) m (a .size) (a .row) (a .ink)) (a .out .now)) none,
+          refl,
+        ),
       ),
     )
 
@@ -46,8 +51,11 @@ add-column c =
     let size : a .size ≤ 4 = omega arith in
     omega (arith, mul-le-mul column size)
 
-bit-byte-requires : tie.Need-bit-byte-requires Inv-loop μ-loop
-bit-byte-requires c κs = omega arith
+is-set-requires : tie.Need-is-set-requires Inv-loop μ-loop
+is-set-requires c κs = omega arith
+
+tone-requires : tie.Need-tone-requires Inv-loop μ-loop
+tone-requires c κs = search needs
 
 column-requires : tie.Need-column-requires Inv-loop μ-loop
 column-requires c κs =
@@ -56,6 +64,9 @@ column-requires c κs =
     let column : l .j + 1 ≤ 12 = omega arith in
     let within : (l .j + 1) * a .size ≤ 12 * a .size = mul-le-mul column (le-refl (a .size)) in
     ((omega arith, omega arith), omega arith)
+
+is-set-requires-2 : tie.Need-is-set-requires-2 Inv-loop μ-loop
+is-set-requires-2 c κs = omega arith
 
 add-j : tie.Need-add-j Inv-loop μ-loop
 add-j c = omega arith
@@ -67,22 +78,25 @@ loop-again : tie.Need-loop-again Inv-loop μ-loop
 loop-again c =
     let a = (let s : tie.Start Inv-loop μ-loop = search in s .args) in
     let l = (let h : tie.At-loop Inv-loop μ-loop = search in h .loop) in
-    let byte = (let p : tie.After-bit-byte Inv-loop μ-loop = search in p .bit-byte .ensures) in
+    let bit = (let p : tie.After-is-set Inv-loop μ-loop = search in p .is-set .ensures) in
+    let byte = (let p : tie.After-tone Inv-loop μ-loop = search in p .tone .ensures) in
     let laid = (let p : tie.After-column Inv-loop μ-loop = search in p .column .ensures) in
-    let more = column-more (a .from) (a .size) (a .bits) (a .on) (a .off) (l .j) _ (a .out .now) _ _ (l .inv .1 .0) byte laid in
-    (omega arith, (more, ap length more ∙ overlay-length (stretched (a .from) ((l .j + 1) * a .size) (a .size) (a .bits) (a .on) (a .off)) 0 (a .out .now)))
+    let next = (let p : tie.After-is-set2 Inv-loop μ-loop = search in p .is-set2 .ensures) in
+    let is = column-is (a .row) (a .ink) (l .j) _ _ _ byte bit (l .inv .1 .0) in
+    let more = column-more (a .from) (a .size) (columnByte (a .row) (a .ink)) (l .j) _ (a .out .now) _ _ (l .inv .1 .1 .0) is laid in
+    (omega arith, (next ∙ sym (shade-next (a .row .above) (a .row .before) (l .j)), (more, ap length more ∙ overlay-length (stretched (a .from) ((l .j + 1) * a .size) (a .size) (a .row) (a .ink)) 0 (a .out .now))))
 
 same-length : tie.Need-same-length Inv-loop μ-loop
 same-length c =
     let l = (let h : tie.At-loop Inv-loop μ-loop = search in h .loop) in
-    l .inv .1 .1
+    l .inv .1 .1 .1
 
 returns : tie.Need-returns Inv-loop μ-loop
 returns c =
     let a = (let s : tie.Start Inv-loop μ-loop = search in s .args) in
     let l = (let h : tie.At-loop Inv-loop μ-loop = search in h .loop) in
     let all : l .j ≡ 12 = omega arith in
-    l .inv .1 .0 ∙ ap (λ (j : ℕ). overlay (stretched (a .from) (j * a .size) (a .size) (a .bits) (a .on) (a .off)) (a .out .now)) all
+    l .inv .1 .1 .0 ∙ ap (λ (j : ℕ). overlay (stretched (a .from) (j * a .size) (a .size) (a .row) (a .ink)) (a .out .now)) all
 
 pub by-columns-spec : {M : Type 1} → statement M
 by-columns-spec =
@@ -93,8 +107,10 @@ by-columns-spec =
     loop-holds
     mul-column
     add-column
-    bit-byte-requires
+    is-set-requires
+    tone-requires
     column-requires
+    is-set-requires-2
     add-j
     loop-less
     loop-again

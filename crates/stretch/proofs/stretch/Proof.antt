@@ -7,7 +7,7 @@ use borrow.Author.Needs.{needs}
 use lib.ListN.{length}
 use Rattle.laws.specs.Lines.{overlay}
 use Rattle.font.specs.Font.{cellColumns}
-use Rattle.stretch.specs.Stretch.{bitByte, stretched}
+use Rattle.stretch.specs.Stretch.{columnByte, stretched}
 use Rattle.stretch.proofs.Dots.{patch-none, patch-cut}
 use Rattle.stretch.proofs.stretch.Statement.{statement}
 use Rattle.stretch.proofs.stretch.Tie as tie
@@ -15,7 +15,7 @@ use Rattle.stretch.proofs.stretch.Tie as tie
 returns : tie.Need-returns
 returns c =
     let a = (let s : tie.Start = search in s .args) in
-    let shows : ℕ → ℕ = λ d. bitByte (a .bits) (d / a .size) (a .on) (a .off) in
+    let shows : ℕ → ℕ = λ d. columnByte (a .row) (a .ink) (d / a .size) in
     patch-cut (a .x .0) 0 (cellColumns * a .size) shows (a .out .now) _ (omega arith) (omega arith) (patch-none (a .x .0) shows (a .out .now))
 
 mul-dots : tie.Need-mul-dots
@@ -34,15 +34,15 @@ returns-2 : tie.Need-returns-2
 returns-2 c =
     let a = (let s : tie.Start = search in s .args) in
     let laid = (let p : tie.After-dot-by-dot = search in p .dot-by-dot .ensures) in
-    let shows : ℕ → ℕ = λ d. bitByte (a .bits) (d / a .size) (a .on) (a .off) in
+    let shows : ℕ → ℕ = λ d. columnByte (a .row) (a .ink) (d / a .size) in
     patch-cut (a .x .0) (length (a .out .now) - a .x .0) (cellColumns * a .size) shows (a .out .now) _ (omega arith) (omega arith) laid
 
 returns-3 : tie.Need-returns-3
 returns-3 c =
     let a = (let s : tie.Start = search in s .args) in
-    let shows : ℕ → ℕ = λ d. bitByte (a .bits) (d / a .size) (a .on) (a .off) in
+    let shows : ℕ → ℕ = λ d. columnByte (a .row) (a .ink) (d / a .size) in
     let none : 0 ≡ cellColumns * a .size = omega arith in
-    patch-none (a .x .0) shows (a .out .now) ∙ ap (λ (n : ℕ). overlay (stretched (a .x .0) n (a .size) (a .bits) (a .on) (a .off)) (a .out .now)) none
+    patch-none (a .x .0) shows (a .out .now) ∙ ap (λ (n : ℕ). overlay (stretched (a .x .0) n (a .size) (a .row) (a .ink)) (a .out .now)) none
 
 dot-by-dot-requires-2 : tie.Need-dot-by-dot-requires-2
 dot-by-dot-requires-2 c κs = search needs
