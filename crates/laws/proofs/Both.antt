@@ -19,6 +19,11 @@ both-none false = refl
 pub none-right : (s t : Bool) → t ≡ false → both s t ≡ false
 none-right s t e = ap (both s) e ∙ both-none s
 
+-- the second matters only where the first holds
+pub both-where : (s t u : Bool) → (s ≡ true → t ≡ u) → both s t ≡ both s u
+both-where true t u same = same refl
+both-where false t u same = refl
+
 pub either-none : (s : Bool) → either s false ≡ s
 either-none true = refl
 either-none false = refl
