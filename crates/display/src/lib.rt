@@ -22,7 +22,7 @@ use units::Lines;
 use words::Kind;
 
 // Where the next word stands, and the background by then.
-struct Pen {
+pub struct Pen {
     x: Dots,
     y: Lines,
     size: usize,
@@ -30,7 +30,7 @@ struct Pen {
 }
 
 // What stays the same over a line: where rows start, the line, the mode, and whether blinking characters are lit.
-struct View {
+pub struct View {
     left: Dots,
     line: Lines,
     mode: u32,
