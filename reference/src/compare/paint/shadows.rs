@@ -126,8 +126,8 @@ fn words(index: u64, random: &mut Random) -> Vec<u16> {
         }
         _ => {}
     }
-    // Often the row is the second, so that it can have any size.
-    if index % 8 >= 3 && random.one_in(2) {
+    // As the second row it can have any size.
+    if index % 8 >= 3 && random.one_in(4) {
         words.insert(0, a_return(random));
         words.truncate(64);
     }
@@ -149,7 +149,7 @@ fn turn_to_a_shadow(scene: &mut Scene, cells: &[Cell], random: &mut Random) {
     }
     let any = seen[random.below(seen.len())];
     let last = seen.iter().rfind(|cell| cell.top == any.top).expect("it is one of them itself");
-    let cell = if random.one_in(3) { last } else { any };
+    let cell = if random.one_in(2) { last } else { any };
     let Cell { left, top, size, .. } = *cell;
     // The line after the last one too.
     let row = match random.below(8) {
@@ -186,4 +186,457 @@ pub fn screen_case(subject: &dyn Paint, index: u64, random: &mut Random) -> Case
         scene.compare(subject, random)?;
     }
     Ok(LINES_A_SCREEN as u64)
+}
+
+#[cfg(test)]
+mod tests {
+    use super::*;
+    use crate::compare::paint::{run, ONE_FOR_THE_SHADOW_IN, SCREENS};
+    use crate::compare::testing::silent;
+    use crate::compare::{Difference, Plan};
+    use crate::fast::Fast;
+    use crate::model::display::{blink_lit, kind, Glyph, Kind};
+    use crate::model::image::lit;
+    use crate::model::Model;
+    use crate::parts::{Answer, PaintOrder};
+    use std::cell::RefCell;
+    use std::collections::BTreeSet;
+
+    fn some(subject: &dyn Paint) -> Result<u64, Difference> {
+        run(subject, &Plan { count: Some(4500), ..Plan::default() }, &mut silent)
+    }
+
+    /// A line with the cells of its screen, for painters that go by rows and columns.
+    struct Line<'a> {
+        order: &'a PaintOrder<'a>,
+        cells: Vec<Cell>,
+        /// For each cell the place of its word.
+        words: Vec<usize>,
+        shown: bool,
+    }
+
+    /// A dot of the line as one of the cells sees it.
+    #[derive(Clone, Copy)]
+    struct View<'a> {
+        line: &'a Line<'a>,
+        number: usize,
+        cell: &'a Cell,
+        /// The word after the cell's own, if there is one.
+        next: Option<Kind>,
+        dot: u32,
+        /// The row and the column of the cell's font dots; there are such places all around the cell.
+        row: i64,
+        column: i64,
+    }
+
+    impl<'a> Line<'a> {
+        fn of(order: &'a PaintOrder<'a>) -> Self {
+            let Settings { ratio, frequency, .. } = order.settings;
+            let kinds = order.words.iter().map(|&word| kind(word)).take_while(|kind| *kind != Kind::End);
+            let of_cells = kinds.enumerate().filter(|(_, kind)| !matches!(kind, Kind::Return { .. }));
+            let words = of_cells.map(|(place, _)| place).collect();
+            let shown = blink_lit(ratio, frequency, order.frame);
+            Line { order, cells: cells(order.words, &order.settings), words, shown }
+        }
+
+        fn view(&'a self, number: usize, dot: u32) -> View<'a> {
+            let cell = &self.cells[number];
+            let font_dots = |from: u32, to: u32| (i64::from(to) - i64::from(from)).div_euclid(i64::from(cell.size));
+            let (row, column) = (font_dots(cell.top, self.order.line), font_dots(cell.left, dot));
+            let next = self.order.words.get(self.words[number] + 1).map(|&word| kind(word));
+            View { line: self, number, cell, next, dot, row, column }
+        }
+
+        /// The cell in which a dot is.
+        fn at(&'a self, dot: u32) -> Option<View<'a>> {
+            let mut views = (0..self.cells.len()).map(|number| self.view(number, dot));
+            views.find(|view| (0..18).contains(&view.row) && (0..12).contains(&view.column))
+        }
+
+        fn lit(&self, dot: u32) -> bool {
+            self.at(dot).is_some_and(|view| view.throws(view.row, view.column))
+        }
+    }
+
+    impl View<'_> {
+        /// Whether its character has this font dot, shown or not.
+        fn font(&self, row: i64, column: i64) -> bool {
+            let inside = (0..18).contains(&row) && (0..12).contains(&column);
+            let bits = |glyph: Glyph| self.line.order.font[ROWS * usize::from(glyph.code) + row as usize];
+            inside && self.cell.glyph.is_some_and(|glyph| lit(bits(glyph), column as usize))
+        }
+
+        fn is_space(&self) -> bool {
+            self.cell.glyph.is_none()
+        }
+
+        fn blinked_out(&self) -> bool {
+            !self.line.shown && self.cell.glyph.is_some_and(|glyph| glyph.blink)
+        }
+
+        /// Whether it throws the shadow of this font dot, wherever that falls.
+        fn throws(&self, row: i64, column: i64) -> bool {
+            !self.blinked_out() && self.font(row, column)
+        }
+
+        /// On a line of the cell, but not in its first row.
+        fn under_a_row(&self) -> bool {
+            (1..18).contains(&self.row)
+        }
+
+        /// The rule itself.
+        fn right(&self) -> bool {
+            self.under_a_row() && self.throws(self.row - 1, self.column - 1)
+        }
+
+        /// In the column right of the cell.
+        fn beside(&self) -> bool {
+            self.column == 12
+        }
+
+        /// The dot is in no cell at all.
+        fn outside(&self) -> bool {
+            self.line.at(self.dot).is_none()
+        }
+    }
+
+    /// Paints mode 1 as mode 0 with a shadow by rules of its own, and the rest as the model.
+    struct Painter {
+        /// The modes in which there is a shadow.
+        modes: &'static [u32],
+        /// Whether a cell throws its shadow on a dot.
+        throws: fn(&View) -> bool,
+        /// The byte of a dot on which a cell throws its shadow, given the one without.
+        lays: fn(&View, u8) -> u8,
+    }
+
+    const RIGHT: Painter =
+        Painter { modes: &[1], throws: |it| it.right(), lays: |it, plain| if it.line.lit(it.dot) { plain } else { 8 } };
+
+    impl Paint for Painter {
+        fn paint(&self, order: &PaintOrder, dots: &mut [u8]) -> Answer {
+            let mode = if order.settings.mode == 1 { 0 } else { order.settings.mode };
+            let answer = Model.paint(&PaintOrder { settings: Settings { mode, ..order.settings }, ..*order }, dots);
+            if answer.number != 0 || !order.settings.on || !self.modes.contains(&order.settings.mode) {
+                return answer;
+            }
+            let line = Line::of(order);
+            for (dot, byte) in (0..).zip(&mut dots[..order.width as usize]) {
+                let mut views = (0..line.cells.len()).map(|number| line.view(number, dot));
+                if let Some(view) = views.find(self.throws) {
+                    *byte = (self.lays)(&view, *byte);
+                }
+            }
+            answer
+        }
+    }
+
+    #[test]
+    fn a_painter_by_rows_and_columns_agrees_with_the_model() {
+        some(&RIGHT).unwrap();
+    }
+
+    fn throws(throws: fn(&View) -> bool) -> Painter {
+        Painter { throws, ..RIGHT }
+    }
+
+    fn lays(lays: fn(&View, u8) -> u8) -> Painter {
+        Painter { lays, ..RIGHT }
+    }
+
+    fn in_modes(modes: &'static [u32]) -> Painter {
+        Painter { modes, ..RIGHT }
+    }
+
+    #[test]
+    fn every_planted_mistake_is_found() {
+        let mistakes = [
+            ("no shadow", in_modes(&[])),
+            ("in mode 0", in_modes(&[0, 1])),
+            ("in mode 2", in_modes(&[1, 2])),
+            ("in mode 3", in_modes(&[1, 3])),
+            (
+                "one clock wide whatever the size",
+                throws(|it| it.right() && (it.dot - it.cell.left) % it.cell.size == 0),
+            ),
+            (
+                "one line high whatever the size",
+                throws(|it| it.right() && (it.line.order.line - it.cell.top) % it.cell.size == 0),
+            ),
+            (
+                "from one clock left and one line above",
+                throws(|it| {
+                    let Cell { left, top, size, .. } = *it.cell;
+                    let (dot, line) = (i64::from(it.dot) - 1, i64::from(it.line.order.line) - 1);
+                    let of_size = |from: u32, to: i64| (to - i64::from(from)).div_euclid(i64::from(size));
+                    (0..18).contains(&it.row) && it.throws(of_size(top, line), of_size(left, dot))
+                }),
+            ),
+            ("at sizes 2 and 4 only", throws(|it| it.right() && it.cell.size % 2 == 0)),
+            ("two font dots deep", throws(|it| it.right() || (it.row < 18 && it.throws(it.row - 2, it.column - 2)))),
+            ("from the north-east", throws(|it| it.row < 18 && it.throws(it.row - 1, it.column + 1))),
+            ("from the north", throws(|it| it.row < 18 && it.throws(it.row - 1, it.column))),
+            ("from the west, so on row 0 too", throws(|it| it.throws(it.row, it.column - 1))),
+            ("from the south-west", throws(|it| it.row >= 0 && it.throws(it.row + 1, it.column - 1))),
+            ("on row 0 by row 0", throws(|it| it.right() || (it.row == 0 && it.throws(0, it.column - 1)))),
+            ("on row 0 by row 17", throws(|it| it.right() || (it.row == 0 && it.throws(17, it.column - 1)))),
+            (
+                "on row 0 by the row before it in the font",
+                throws(|it| {
+                    let row_before = |code: u16| it.line.order.font[(ROWS * usize::from(code)).max(1) - 1];
+                    let before = it.cell.glyph.filter(|_| !it.blinked_out()).map_or(0, |glyph| row_before(glyph.code));
+                    it.right() || (it.row == 0 && (1..13).contains(&it.column) && lit(before, it.column as usize - 1))
+                }),
+            ),
+            ("not on row 1", throws(|it| it.right() && it.row != 1)),
+            ("not on row 17", throws(|it| it.right() && it.row != 17)),
+            (
+                "from the row of cells above",
+                throws(|it| it.right() || (it.row == 18 && !it.outside() && it.throws(17, it.column - 1))),
+            ),
+            (
+                "below the bottom line",
+                throws(|it| it.right() || (it.row == 18 && it.outside() && it.throws(17, it.column - 1))),
+            ),
+            ("not in column 0", throws(|it| it.right() && !it.beside())),
+            ("not into the next cell", throws(|it| it.right() && !(it.beside() && !it.outside()))),
+            ("only into the next cell", throws(|it| it.right() && it.beside())),
+            ("not after the last cell", throws(|it| it.right() && !(it.beside() && it.outside()))),
+            (
+                "two columns after the last cell",
+                throws(|it| {
+                    it.right() || (it.column == 13 && it.outside() && it.under_a_row() && it.throws(it.row - 1, 11))
+                }),
+            ),
+            (
+                "a cell's width after the last cell",
+                throws(|it| {
+                    let after = (13..24).contains(&it.column) && it.outside();
+                    it.right() || (after && it.under_a_row() && it.throws(it.row - 1, 11))
+                }),
+            ),
+            (
+                "lost at a return",
+                throws(|it| it.right() && !(it.beside() && matches!(it.next, Some(Kind::Return { .. })))),
+            ),
+            ("lost at an end", throws(|it| it.right() && !(it.beside() && it.next == Some(Kind::End)))),
+            ("lost after word 63", throws(|it| it.right() && !(it.beside() && it.next.is_none()))),
+            (
+                "carried over to the next row's first cell",
+                throws(|it| {
+                    let returns = matches!(it.next, Some(Kind::Return { .. }));
+                    let first = it.line.at(it.dot).filter(|at| returns && at.number == it.number + 1 && at.column == 0);
+                    it.right() || first.is_some_and(|first| first.row > 0 && it.throws(first.row - 1, 11))
+                }),
+            ),
+            (
+                "none on a space",
+                lays(
+                    |it, plain| {
+                        if it.line.at(it.dot).is_some_and(|at| at.is_space()) {
+                            plain
+                        } else {
+                            (RIGHT.lays)(it, plain)
+                        }
+                    },
+                ),
+            ),
+            (
+                "none on a space that is first in what it colours",
+                throws(|it| it.right() && !(it.beside() && matches!(it.next, Some(Kind::Space { background: 1.. })))),
+            ),
+            (
+                "a space hands on what it was given",
+                throws(|it| {
+                    let over = it.column == 24 && it.under_a_row() && matches!(it.next, Some(Kind::Space { .. }));
+                    it.right() || (over && it.throws(it.row - 1, 11))
+                }),
+            ),
+            (
+                "thrown by a space as if it were full",
+                throws(|it| it.right() || (it.is_space() && it.under_a_row() && (1..13).contains(&it.column))),
+            ),
+            (
+                "thrown by a space as if it were the font's last cell",
+                throws(|it| {
+                    let inside = it.is_space() && it.under_a_row() && (1..13).contains(&it.column);
+                    it.right()
+                        || (inside && lit(it.line.order.font[61 * ROWS + it.row as usize - 1], it.column as usize - 1))
+                }),
+            ),
+            ("thrown by a blinked-out character", throws(|it| it.under_a_row() && it.font(it.row - 1, it.column - 1))),
+            (
+                "thrown beside a blinked-out character",
+                throws(|it| it.right() || (it.beside() && it.under_a_row() && it.font(it.row - 1, 11))),
+            ),
+            (
+                "thrown by no blinking character",
+                throws(|it| it.right() && !it.cell.glyph.is_some_and(|glyph| glyph.blink)),
+            ),
+            (
+                "none on a blinked-out character",
+                lays(|it, plain| {
+                    if it.line.at(it.dot).is_some_and(|at| at.blinked_out()) {
+                        plain
+                    } else {
+                        (RIGHT.lays)(it, plain)
+                    }
+                }),
+            ),
+            (
+                "none thrown by a black character",
+                throws(|it| it.right() && it.cell.glyph.is_some_and(|glyph| glyph.colour != 0)),
+            ),
+            (
+                "the colour of a space for black",
+                lays(|it, plain| if it.line.lit(it.dot) { plain } else { 8 + it.cell.background as u8 }),
+            ),
+            (
+                "the colour of the place for black",
+                lays(|it, plain| {
+                    let colour = it.line.at(it.dot).map_or(0, |at| at.cell.background);
+                    if it.line.lit(it.dot) {
+                        plain
+                    } else {
+                        8 + colour as u8
+                    }
+                }),
+            ),
+            (
+                "the colour of a space that receives it",
+                lays(|it, plain| {
+                    let space = it.line.at(it.dot).filter(|at| at.is_space());
+                    space.map_or((RIGHT.lays)(it, plain), |at| 8 + at.cell.background as u8)
+                }),
+            ),
+            ("over a lit dot", lays(|_, _| 8)),
+            (
+                "over a lit dot of the next cell",
+                lays(|it, plain| if it.beside() { 8 } else { (RIGHT.lays)(it, plain) }),
+            ),
+            (
+                "only where it is whole",
+                throws(|it| {
+                    let end = it.cell.left + (it.column + 1).max(0) as u32 * it.cell.size;
+                    it.right() && end <= it.line.order.width
+                }),
+            ),
+        ];
+        for (name, painter) in mistakes {
+            let difference = some(&painter).expect_err(name);
+            assert!(difference.report.contains("words [") && difference.report.contains("font ["), "{name}");
+        }
+    }
+
+    /// Notes what the shadows of mode 1 fall on.
+    #[derive(Default)]
+    struct Notes {
+        /// How many lines in mode 1 there are.
+        lines: RefCell<u64>,
+        /// What is there and the size.
+        falls_on: RefCell<BTreeSet<(&'static str, u32)>>,
+        /// The font dots that throw it.
+        thrown_by: RefCell<BTreeSet<(i64, i64)>>,
+        /// The places of spaces and of the words that end a row, where a shadow falls on the first column.
+        spaces: RefCell<BTreeSet<usize>>,
+        ends: RefCell<BTreeSet<usize>>,
+        returns: RefCell<BTreeSet<usize>>,
+        /// How many clocks of a shadow are left by the width, and its size.
+        cut: RefCell<BTreeSet<(u32, u32)>>,
+    }
+
+    impl Paint for Notes {
+        fn paint(&self, order: &PaintOrder, dots: &mut [u8]) -> Answer {
+            let answer = Fast.paint(order, dots);
+            if answer.number == 0 && order.settings.on && order.settings.mode == 1 {
+                *self.lines.borrow_mut() += 1;
+                self.note(order, dots);
+            }
+            answer
+        }
+    }
+
+    impl Notes {
+        fn note(&self, order: &PaintOrder, dots: &[u8]) {
+            let line = Line::of(order);
+            for number in (0..line.cells.len()).filter(|&number| line.view(number, 0).under_a_row()) {
+                let size = line.cells[number].size;
+                let alone = line.cells.iter().filter(|cell| cell.top == line.cells[number].top).count() == 1;
+                let (left, word) = (line.cells[number].left, line.words[number]);
+                let black = (left..order.width.min(left + 13 * size)).filter(|&dot| dots[dot as usize] == 8);
+                for dot in black {
+                    let view = line.view(number, dot);
+                    // A character may be black as well.
+                    if !view.right() || line.lit(dot) {
+                        continue;
+                    }
+                    self.thrown_by.borrow_mut().insert((view.row - 1, view.column - 1));
+                    let beside = line.at(dot);
+                    let what = match (view.next, beside) {
+                        _ if !view.beside() => "its own cell",
+                        (Some(Kind::Return { .. }), _) => {
+                            self.returns.borrow_mut().insert(word + 1);
+                            if alone {
+                                "a row of one cell"
+                            } else {
+                                "after a row that a return ends"
+                            }
+                        }
+                        (Some(Kind::End), _) => {
+                            self.ends.borrow_mut().insert(word + 1);
+                            "after a row that an end ends"
+                        }
+                        (None, _) => "after a row that ends with word 63",
+                        (_, Some(next)) if next.is_space() => {
+                            self.spaces.borrow_mut().insert(word + 1);
+                            "a space"
+                        }
+                        (_, Some(next)) if next.blinked_out() => "a blinked-out character",
+                        _ => "a character",
+                    };
+                    self.falls_on.borrow_mut().insert((what, size));
+                    if dot + 1 == order.width {
+                        self.cut.borrow_mut().insert(((dot - left) % size + 1, size));
+                    }
+                }
+            }
+        }
+    }
+
+    #[test]
+    fn a_whole_run_has_200_000_lines_for_the_shadow() {
+        let screens = (0..SCREENS).filter(|screen| screen % ONE_FOR_THE_SHADOW_IN == 0).count();
+        assert!(screens * LINES_A_SCREEN >= 200_000);
+    }
+
+    #[test]
+    fn shadows_of_every_font_dot_fall_on_everything() {
+        let notes = Notes::default();
+        let lines: u64 =
+            (0..10_000).map(|index| screen_case(&notes, index, &mut Random::of_case(1, index)).unwrap()).sum();
+        assert_eq!((lines, *notes.lines.borrow()), (80_000, 80_000));
+        let falls_on = notes.falls_on.into_inner();
+        for size in 1..5 {
+            for what in [
+                "its own cell",
+                "a character",
+                "a space",
+                "a blinked-out character",
+                "a row of one cell",
+                "after a row that a return ends",
+                "after a row that an end ends",
+                "after a row that ends with word 63",
+            ] {
+                assert!(falls_on.contains(&(what, size)), "{what} at size {size}");
+            }
+        }
+        let thrown_by = (0..17).flat_map(|row| (0..12).map(move |column| (row, column)));
+        assert_eq!(notes.thrown_by.into_inner(), thrown_by.collect());
+        // After a cell any place but the first.
+        for places in [notes.spaces, notes.ends, notes.returns] {
+            assert_eq!(places.into_inner(), (1..64).collect());
+        }
+        let cut = (1..5).flat_map(|size| (1..=size).map(move |left| (left, size)));
+        assert_eq!(notes.cut.into_inner(), cut.collect());
+    }
 }
