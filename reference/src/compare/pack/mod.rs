@@ -842,10 +842,9 @@ mod tests {
 
     #[test]
     fn a_screen_with_its_shadow_in_the_wrong_mode_is_found() {
-        // None in mode 1; one in mode 0 too.
-        let mistakes: [(&str, fn(u32) -> u32); 2] =
-            [("mode: 1,", |mode| if mode == 1 { 0 } else { mode }), ("mode: 0,", |mode| mode.max(1))];
-        for (found_in, mistake) in mistakes {
+        let none: fn(u32) -> u32 = |mode| if mode == 1 { 0 } else { mode };
+        let too_many: fn(u32) -> u32 = |mode| mode.max(1);
+        for (mistake, found_in) in [(none, "mode: 1,"), (too_many, "mode: 0,")] {
             let difference = some(&Mispainted(|word| word, mistake), RANDOM_FROM, 30_000).unwrap_err();
             assert!(difference.report.contains("a packed screen") && difference.report.contains(found_in));
         }

@@ -59,7 +59,7 @@ fn pattern(random: &mut Random) -> [u16; ROWS] {
         1 => pattern.fill(1 << random.below(12)),
         2 => pattern[random.below(ROWS)] = random.word() % 4096,
         // Few dots, half of them, and most.
-        3 => pattern.iter_mut().for_each(|row| *row = random.word() & random.word() & random.word() % 4096),
+        3 => pattern.iter_mut().for_each(|row| *row = (random.word() & random.word() & random.word()) % 4096),
         4 => pattern.iter_mut().for_each(|row| *row = random.word() % 4096),
         5 => pattern.iter_mut().for_each(|row| *row = (random.word() | random.word() | random.word()) % 4096),
         _ => {
@@ -294,6 +294,11 @@ mod tests {
             self.column == 12
         }
 
+        /// Whether it throws a shadow beside the cell, in whatever column the dot is.
+        fn hands_on(&self) -> bool {
+            self.under_a_row() && self.throws(self.row - 1, 11)
+        }
+
         /// The dot is in no cell at all.
         fn outside(&self) -> bool {
             self.line.at(self.dot).is_none()
@@ -399,21 +404,16 @@ mod tests {
                 throws(|it| it.right() || (it.row == 18 && it.outside() && it.throws(17, it.column - 1))),
             ),
             ("not in column 0", throws(|it| it.right() && !it.beside())),
-            ("not into the next cell", throws(|it| it.right() && !(it.beside() && !it.outside()))),
+            ("not into the next cell", throws(|it| it.right() && (it.outside() || !it.beside()))),
             ("only into the next cell", throws(|it| it.right() && it.beside())),
             ("not after the last cell", throws(|it| it.right() && !(it.beside() && it.outside()))),
             (
                 "two columns after the last cell",
-                throws(|it| {
-                    it.right() || (it.column == 13 && it.outside() && it.under_a_row() && it.throws(it.row - 1, 11))
-                }),
+                throws(|it| it.right() || (it.column == 13 && it.outside() && it.hands_on())),
             ),
             (
                 "a cell's width after the last cell",
-                throws(|it| {
-                    let after = (13..24).contains(&it.column) && it.outside();
-                    it.right() || (after && it.under_a_row() && it.throws(it.row - 1, 11))
-                }),
+                throws(|it| it.right() || ((13..24).contains(&it.column) && it.outside() && it.hands_on())),
             ),
             (
                 "lost at a return",
@@ -429,27 +429,16 @@ mod tests {
                     it.right() || first.is_some_and(|first| first.row > 0 && it.throws(first.row - 1, 11))
                 }),
             ),
+            ("none on a space", throws(|it| it.right() && !it.line.at(it.dot).is_some_and(|at| at.is_space()))),
             (
-                "none on a space",
-                lays(
-                    |it, plain| {
-                        if it.line.at(it.dot).is_some_and(|at| at.is_space()) {
-                            plain
-                        } else {
-                            (RIGHT.lays)(it, plain)
-                        }
-                    },
-                ),
-            ),
-            (
-                "none on a space that is first in what it colours",
+                "none on a space with a colour",
                 throws(|it| it.right() && !(it.beside() && matches!(it.next, Some(Kind::Space { background: 1.. })))),
             ),
             (
                 "a space hands on what it was given",
                 throws(|it| {
-                    let over = it.column == 24 && it.under_a_row() && matches!(it.next, Some(Kind::Space { .. }));
-                    it.right() || (over && it.throws(it.row - 1, 11))
+                    let over = it.column == 24 && matches!(it.next, Some(Kind::Space { .. }));
+                    it.right() || (over && it.hands_on())
                 }),
             ),
             (
@@ -475,13 +464,7 @@ mod tests {
             ),
             (
                 "none on a blinked-out character",
-                lays(|it, plain| {
-                    if it.line.at(it.dot).is_some_and(|at| at.blinked_out()) {
-                        plain
-                    } else {
-                        (RIGHT.lays)(it, plain)
-                    }
-                }),
+                throws(|it| it.right() && !it.line.at(it.dot).is_some_and(|at| at.blinked_out())),
             ),
             (
                 "none thrown by a black character",
@@ -492,22 +475,15 @@ mod tests {
                 lays(|it, plain| if it.line.lit(it.dot) { plain } else { 8 + it.cell.background as u8 }),
             ),
             (
-                "the colour of the place for black",
-                lays(|it, plain| {
-                    let colour = it.line.at(it.dot).map_or(0, |at| at.cell.background);
-                    if it.line.lit(it.dot) {
-                        plain
-                    } else {
-                        8 + colour as u8
-                    }
-                }),
-            ),
-            (
-                "the colour of a space that receives it",
+                "the colour of a space for black where a space receives it",
                 lays(|it, plain| {
                     let space = it.line.at(it.dot).filter(|at| at.is_space());
                     space.map_or((RIGHT.lays)(it, plain), |at| 8 + at.cell.background as u8)
                 }),
+            ),
+            (
+                "the starting colour for black",
+                lays(|it, plain| if it.line.lit(it.dot) { plain } else { 8 + it.line.order.settings.colour as u8 }),
             ),
             ("over a lit dot", lays(|_, _| 8)),
             (
