@@ -183,10 +183,23 @@ static const uint16_t *some_font(void)
     return font;
 }
 
-static void frame(const face *f, const uint16_t *words)
+/* A painter's shape has a mode and a size in one number. */
+#define IN_MODE(mode, size) (8 * (mode) + (size))
+
+static uint32_t mode_of(int shape)
+{
+    return (uint32_t)shape / 8;
+}
+
+static int size_of(int shape)
+{
+    return shape % 8;
+}
+
+static void frame(const face *f, uint32_t mode, const uint16_t *words)
 {
     static uint8_t dots[SIDE];
-    dirgeflint_settings settings = { true, 3, 1, 2, 2, 1, 0 };
+    dirgeflint_settings settings = { true, mode, 1, 2, 2, 1, 0 };
     const uint16_t *font = some_font();
     for (uint32_t line = 0; line < SIDE; line++)
         f->paint(words, 64, font, 1116, settings, 5, line, SIDE, dots, SIDE);
@@ -194,10 +207,10 @@ static void frame(const face *f, const uint16_t *words)
 }
 
 /* A few words in each of three rows of the size. */
-static void sparse(const face *f, int size)
+static void sparse(const face *f, int shape)
 {
     uint16_t words[64] = { 0 };
-    int n = 0;
+    int size = size_of(shape), n = 0;
     words[n++] = (uint16_t)(988 + 4 * size);
     for (int row = 0; row < 3; row++) {
         words[n++] = (uint16_t)(1008 + 2 * row);
@@ -206,31 +219,32 @@ static void sparse(const face *f, int size)
         words[n++] = (uint16_t)(990 + 4 * size);
     }
     words[n] = 1009;
-    frame(f, words);
+    frame(f, mode_of(shape), words);
 }
 
 /* Every word used, in rows as long as fit at the size. */
-static void full(const face *f, int size)
+static void full(const face *f, int shape)
 {
     uint16_t words[64];
-    int row = SIDE / (12 * size) + 1;
+    int size = size_of(shape), row = SIDE / (12 * size) + 1;
     for (int i = 0; i < 64; i++)
         words[i] = (uint16_t)(i % row == 0 ? 988 + 4 * size : 16 * (i % 62) + 10);
-    frame(f, words);
+    frame(f, mode_of(shape), words);
 }
 
 /* As many lines, all through one row that fills the line at the size. */
-static void cut(const face *f, int size)
+static void cut(const face *f, int shape)
 {
     static uint8_t dots[SIDE];
-    dirgeflint_settings settings = { true, 3, 1, 0, 0, 1, 0 };
+    dirgeflint_settings settings = { true, mode_of(shape), 1, 0, 0, 1, 0 };
+    uint32_t size = (uint32_t)size_of(shape);
     uint16_t words[64];
     const uint16_t *font = some_font();
-    words[0] = dirgeflint_return((uint32_t)size, 0);
+    words[0] = dirgeflint_return(size, 0);
     for (int i = 1; i < 64; i++)
         words[i] = dirgeflint_character((uint32_t)i % 62, 5, false);
     for (uint32_t line = 0; line < SIDE; line++)
-        f->paint(words, 64, font, 1116, settings, 5, 18 + line % (18 * (uint32_t)size), SIDE, dots, SIDE);
+        f->paint(words, 64, font, 1116, settings, 5, 18 + line % (18 * size), SIDE, dots, SIDE);
     seen = dots[9];
 }
 
@@ -319,6 +333,13 @@ static void pack_glyphs(const face *f, int size)
     packed(f, size, size < DIRGEFLINT_CELLS ? size : DIRGEFLINT_CELLS, false);
 }
 
+/* Frames of 1,024 by 1,024 dots, and 1,024 lines that all go through cells. */
+#define SIZED(mode, size) \
+    { "paint", "mode " #mode ", a sparse frame, size " #size, sparse, IN_MODE(mode, size), "paint" }, \
+    { "paint", "mode " #mode ", a full frame, size " #size, full, IN_MODE(mode, size), "paint" }, \
+    { "paint", "mode " #mode ", lines through cells, size " #size, cut, IN_MODE(mode, size), "paint" },
+#define PAINTED(mode) SIZED(mode, 1) SIZED(mode, 2) SIZED(mode, 3) SIZED(mode, 4)
+
 static const shape shapes[] = {
     { "pulse", "768 calls: each channel's period", pulse, 0, "pulse_level" },
     { "dac", "a period in one call", dac, PERIOD, "dac_play" },
@@ -328,18 +349,7 @@ static const shape shapes[] = {
     { "dac", "a reset and 500 pairs written", dac_writes, 500, "dac_reset dac_write_low dac_write_high" },
     { "port", "130 calls: the whole RAM written", port, 0,
       "port_reset port_write_address port_write_attribute port_write_character" },
-    { "paint", "a frame of 1024 x 1024, sparse, size 1", sparse, 1, "paint" },
-    { "paint", "a frame of 1024 x 1024, sparse, size 2", sparse, 2, "paint" },
-    { "paint", "a frame of 1024 x 1024, sparse, size 3", sparse, 3, "paint" },
-    { "paint", "a frame of 1024 x 1024, sparse, size 4", sparse, 4, "paint" },
-    { "paint", "a frame of 1024 x 1024, full, size 1", full, 1, "paint" },
-    { "paint", "a frame of 1024 x 1024, full, size 2", full, 2, "paint" },
-    { "paint", "a frame of 1024 x 1024, full, size 3", full, 3, "paint" },
-    { "paint", "a frame of 1024 x 1024, full, size 4", full, 4, "paint" },
-    { "paint", "1,024 lines, all through cells of size 1", cut, 1, "paint" },
-    { "paint", "1,024 lines, all through cells of size 2", cut, 2, "paint" },
-    { "paint", "1,024 lines, all through cells of size 3", cut, 3, "paint" },
-    { "paint", "1,024 lines, all through cells of size 4", cut, 4, "paint" },
+    PAINTED(0) PAINTED(1) PAINTED(2) PAINTED(3)
     { "hex", "a font's text written", hex_write, 0, "hex_write" },
     { "hex", "a font's text read", hex_read, 0, "hex_read" },
     { "hex", "image to font", image_to_font, 0, "image_to_font" },

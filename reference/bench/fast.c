@@ -217,6 +217,46 @@ static void fast_cell(uint8_t *to, uint32_t size, uint32_t row, uint8_t lit, uin
     }
 }
 
+/* Eight dots of a row in mode 1: black where `any` has a bit, which has all that `bits` has; the colour over it where `bits` has one. */
+static uint64_t fast_shaded_dots(uint32_t bits, uint32_t any, uint64_t columns, uint8_t colour)
+{
+    static const uint64_t ones = 0x0101010101010101u;
+    uint64_t lit = ((bits * ones & columns) + 127 * ones) >> 7 & ones;
+    uint64_t black = ((any * ones & columns) + 127 * ones) >> 4 & 8 * ones;
+    return black | lit * colour;
+}
+
+/* A cell's row in mode 1, with the columns that a shadow falls on. */
+static void fast_shaded_cell(uint8_t *to, uint32_t size, uint32_t row, uint32_t shadow, uint8_t colour)
+{
+    uint32_t any = row | shadow, left = row >> 4, right = row & 15, any_left = any >> 4, any_right = any & 15;
+    switch (size) {
+    case 1:
+        fast_put_8(to, fast_shaded_dots(left, any_left, 0x0102040810204080u, colour));
+        fast_put_4(to + 8, fast_shaded_dots(right, any_right, 0x01020408u, colour));
+        break;
+    case 2:
+        fast_put_8(to, fast_shaded_dots(left, any_left, 0x1010202040408080u, colour));
+        fast_put_8(to + 8, fast_shaded_dots(left, any_left, 0x0101020204040808u, colour));
+        fast_put_8(to + 16, fast_shaded_dots(right, any_right, 0x0101020204040808u, colour));
+        break;
+    case 3:
+        fast_put_8(to, fast_shaded_dots(left, any_left, 0x2020404040808080u, colour));
+        fast_put_8(to + 8, fast_shaded_dots(left, any_left, 0x0408080810101020u, colour));
+        fast_put_8(to + 16, fast_shaded_dots(left, any_left, 0x0101010202020404u, colour));
+        fast_put_8(to + 24, fast_shaded_dots(right, any_right, 0x0202040404080808u, colour));
+        fast_put_4(to + 32, fast_shaded_dots(right, any_right, 0x01010102u, colour));
+        break;
+    default:
+        fast_put_8(to, fast_shaded_dots(left, any_left, 0x4040404080808080u, colour));
+        fast_put_8(to + 8, fast_shaded_dots(left, any_left, 0x1010101020202020u, colour));
+        fast_put_8(to + 16, fast_shaded_dots(left, any_left, 0x0404040408080808u, colour));
+        fast_put_8(to + 24, fast_shaded_dots(left, any_left, 0x0101010102020202u, colour));
+        fast_put_8(to + 32, fast_shaded_dots(right, any_right, 0x0404040408080808u, colour));
+        fast_put_8(to + 40, fast_shaded_dots(right, any_right, 0x0101010102020202u, colour));
+    }
+}
+
 /* The row that a line cuts: its first word, 64 if there is none, and what holds there. */
 typedef struct fast_row {
     uint32_t word, top, size;
@@ -245,6 +285,62 @@ static fast_row fast_find(const uint16_t *words, const dirgeflint_settings *s, u
     return row;
 }
 
+/* Paints the cells of the row that a line cuts, by the font's rows from the cut one on. Gives the dot after them. */
+static uint32_t fast_plain_row(const uint16_t *words, const uint16_t *rows, const fast_row *row, bool hidden, uint8_t mask,
+                               uint32_t left, uint8_t *dots, uint32_t width)
+{
+    uint8_t background = row->background;
+    for (uint32_t i = row->word; i < 64 && left < width; i++) {
+        uint32_t code = words[i] >> 4, attributes = words[i] & 15, bits = 0;
+        if (code == 62)
+            break;
+        if (code == 63) {
+            if (attributes & 1)
+                break;
+            background = (uint8_t)(8 + (attributes >> 1));
+        } else if (!(hidden && (attributes & 1)))
+            bits = rows[18 * code];
+        uint8_t lit = (uint8_t)(8 + (attributes >> 1)), unlit = background & mask;
+        if (left + 12 * row->size <= width)
+            fast_cell(dots + left, row->size, bits, lit, unlit);
+        else {
+            uint8_t whole[48];
+            fast_cell(whole, row->size, bits, lit, unlit);
+            memcpy(dots + left, whole, width - left);
+        }
+        left += 12 * row->size;
+    }
+    return left;
+}
+
+/* The same in mode 1, by the font's rows from the one above: it throws its shadow one column to the right. */
+static uint32_t fast_shaded_row(const uint16_t *words, const uint16_t *rows, const fast_row *row, bool hidden, uint32_t left,
+                                uint8_t *dots, uint32_t width)
+{
+    uint32_t thrown = 0; /* by the cell before, whose last column falls on the next cell's first */
+    for (uint32_t i = row->word; i < 64 && left < width; i++) {
+        uint32_t code = words[i] >> 4, attributes = words[i] & 15, bits = 0, above = 0;
+        if (code == 62 || (code == 63 && (attributes & 1)))
+            break;
+        if (code < 62 && !(hidden && (attributes & 1))) {
+            above = rows[18 * code];
+            bits = rows[18 * code + 1];
+        }
+        thrown = thrown << 12 | above;
+        if (left + 12 * row->size <= width)
+            fast_shaded_cell(dots + left, row->size, bits, thrown >> 1 & 4095, (uint8_t)(attributes >> 1));
+        else {
+            uint8_t whole[48];
+            fast_shaded_cell(whole, row->size, bits, thrown >> 1 & 4095, (uint8_t)(attributes >> 1));
+            memcpy(dots + left, whole, width - left);
+        }
+        left += 12 * row->size;
+    }
+    for (uint32_t i = 0; (thrown & 1) && i < row->size && left < width; i++)
+        dots[left++] = 8;
+    return left;
+}
+
 static dirgeflint_answer fast_paint(const uint16_t *words, size_t words_length, const uint16_t *font,
                                     size_t font_length, dirgeflint_settings s, uint32_t frame, uint32_t line,
                                     uint32_t width, uint8_t *dots, size_t dots_length)
@@ -256,31 +352,15 @@ static dirgeflint_answer fast_paint(const uint16_t *words, size_t words_length, 
         memset(dots, 0, width);
         return fast_answer(0, 0, 0);
     }
-    uint8_t outside = s.mode == 3 ? (uint8_t)(8 + s.colour) : 0, mask = s.mode >= 2 ? 255 : 0;
+    uint8_t outside = s.mode == 3 ? (uint8_t)(8 + s.colour) : 0;
     uint32_t quarter = 4u << s.frequency;
     bool hidden = (frame & (4 * quarter - 1)) >= (3 - s.ratio) * quarter;
     fast_row row = fast_find(words, &s, line);
     uint32_t start = 4 * s.h, left = start, cut = row.word < 64 ? (line - row.top) / row.size : 0;
-    for (uint32_t i = row.word; i < 64 && left < width; i++) {
-        uint32_t code = words[i] >> 4, attributes = words[i] & 15, bits = 0;
-        if (code == 62)
-            break;
-        if (code == 63) {
-            if (attributes & 1)
-                break;
-            row.background = (uint8_t)(8 + (attributes >> 1));
-        } else if (!(hidden && (attributes & 1)))
-            bits = font[18 * code + cut];
-        uint8_t lit = (uint8_t)(8 + (attributes >> 1)), unlit = row.background & mask;
-        if (left + 12 * row.size <= width)
-            fast_cell(dots + left, row.size, bits, lit, unlit);
-        else {
-            uint8_t whole[48];
-            fast_cell(whole, row.size, bits, lit, unlit);
-            memcpy(dots + left, whole, width - left);
-        }
-        left += 12 * row.size;
-    }
+    if (s.mode == 1 && cut > 0)
+        left = fast_shaded_row(words, font + cut - 1, &row, hidden, start, dots, width);
+    else
+        left = fast_plain_row(words, font + cut, &row, hidden, s.mode >= 2 ? 255 : 0, start, dots, width);
     /* No dot is laid twice: outside is filled where no cell is. */
     if (left == start)
         memset(dots, outside, width);

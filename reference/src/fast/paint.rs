@@ -34,9 +34,22 @@ fn blinked_out(settings: &Settings, frame: u32) -> bool {
     frame & (4 * quarter - 1) >= (3 - settings.ratio) * quarter
 }
 
-/// Paints one font row at its size; a cell at the right edge may be cut.
-fn paint_cell<const SIZE: usize>(bits: u16, lit: u8, unlit: u8, dots: &mut [u8]) {
-    let byte = |column: usize| if bits >> (11 - column) & 1 == 1 { lit } else { unlit };
+/// The bytes of a cell.
+struct Ink {
+    lit: u8,
+    unlit: u8,
+}
+
+const SHADOW: u8 = 8;
+
+/// Paints one font row at its size, with the columns that a shadow falls on; a cell at the right edge may be cut.
+fn paint_cell<const SIZE: usize>(bits: u16, shadow: u16, ink: &Ink, dots: &mut [u8]) {
+    let has = |row: u16, column: usize| row >> (11 - column) & 1 == 1;
+    let byte = |column: usize| match has(bits, column) {
+        true => ink.lit,
+        false if has(shadow, column) => SHADOW,
+        false => ink.unlit,
+    };
     if let Some(whole) = dots.first_chunk_mut::<48>().filter(|_| SIZE == 4) {
         for column in 0..12 {
             whole[4 * column..4 * column + 4].fill(byte(column));
@@ -69,6 +82,8 @@ impl Paint for Fast {
         let mut size = 1;
         let mut left = 4 * settings.h as usize;
         let mut in_row = order.line >= top && order.line < top + 18;
+        // What the latest cell throws on the column right of it, as a bit.
+        let mut thrown = 0;
         for &word in order.words {
             let code = usize::from(word >> 4);
             let attributes = word & 15;
@@ -101,20 +116,29 @@ impl Paint for Fast {
             }
             let end = dots.len().min(left + width);
             let cell = &mut dots[left..end];
-            let unlit = if boxed { background } else { 0 };
             left += width;
-            if space || (hidden && attributes & 1 == 1) {
-                cell.fill(unlit);
-                continue;
+            let (mut bits, mut above) = (0, 0);
+            if !space && !(hidden && attributes & 1 == 1) {
+                let row = ((order.line - top) / size) as usize;
+                bits = order.font[18 * code + row];
+                if settings.mode == 1 && row > 0 {
+                    above = order.font[18 * code + row - 1];
+                }
             }
-            let bits = order.font[18 * code + ((order.line - top) / size) as usize];
-            let lit = 8 + (attributes >> 1) as u8;
+            let shadow = thrown << 11 | above >> 1;
+            thrown = above & 1;
+            let ink = Ink { lit: 8 + (attributes >> 1) as u8, unlit: if boxed { background } else { 0 } };
             match size {
-                1 => paint_cell::<1>(bits, lit, unlit, cell),
-                2 => paint_cell::<2>(bits, lit, unlit, cell),
-                3 => paint_cell::<3>(bits, lit, unlit, cell),
-                _ => paint_cell::<4>(bits, lit, unlit, cell),
+                _ if bits | shadow == 0 => cell.fill(ink.unlit),
+                1 => paint_cell::<1>(bits, shadow, &ink, cell),
+                2 => paint_cell::<2>(bits, shadow, &ink, cell),
+                3 => paint_cell::<3>(bits, shadow, &ink, cell),
+                _ => paint_cell::<4>(bits, shadow, &ink, cell),
             }
+        }
+        if thrown == 1 && left < dots.len() {
+            let end = dots.len().min(left + size as usize);
+            dots[left..end].fill(SHADOW);
         }
         Answer::accepted(0)
     }

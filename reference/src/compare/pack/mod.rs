@@ -224,7 +224,13 @@ impl Screen {
             _ => random.below(glyphs),
         };
         let words = paint::words(index, random);
-        Screen { names: words.iter().map(|_| name(random)).collect(), words, settings: paint::settings(random) }
+        let names = words.iter().map(|_| name(random)).collect();
+        let mut settings = paint::settings(random);
+        // More often than elsewhere in mode 1, where a dot hangs on two glyphs.
+        if random.one_in(4) {
+            settings.mode = 1;
+        }
+        Screen { words, names, settings }
     }
 
     fn kinds(&self) -> Vec<Kind> {
@@ -802,8 +808,8 @@ mod tests {
         .unwrap_err();
     }
 
-    /// The packer is right, and the painter shows a cell that is not the glyph's.
-    struct Mispainted(fn(u16) -> u16);
+    /// The packer is right, and the painter takes words and the mode for others.
+    struct Mispainted(fn(u16) -> u16, fn(u32) -> u32);
 
     impl Pack for Mispainted {
         fn pack(&self, glyphs: &[u16], font: &mut [u16], cells: &mut [u8]) -> Answer {
@@ -814,7 +820,8 @@ mod tests {
     impl Paint for Mispainted {
         fn paint(&self, order: &PaintOrder, dots: &mut [u8]) -> Answer {
             let words: Vec<u16> = order.words.iter().map(|&word| (self.0)(word)).collect();
-            Fast.paint(&PaintOrder { words: &words, ..*order }, dots)
+            let settings = Settings { mode: (self.1)(order.settings.mode), ..order.settings };
+            Fast.paint(&PaintOrder { words: &words, settings, ..*order }, dots)
         }
     }
 
@@ -828,8 +835,18 @@ mod tests {
             |word| if word < 62 * 16 && word % 16 / 2 == 5 { word ^ 2 } else { word },
         ];
         for mistake in mistakes {
-            let difference = some(&Mispainted(mistake), RANDOM_FROM, 30_000).unwrap_err();
+            let difference = some(&Mispainted(mistake, |mode| mode), RANDOM_FROM, 30_000).unwrap_err();
             assert!(difference.report.contains("a packed screen") && difference.report.contains("drawn as"));
+        }
+    }
+
+    #[test]
+    fn a_screen_with_its_shadow_in_the_wrong_mode_is_found() {
+        let none: fn(u32) -> u32 = |mode| if mode == 1 { 0 } else { mode };
+        let too_many: fn(u32) -> u32 = |mode| mode.max(1);
+        for (mistake, found_in) in [(none, "mode: 1,"), (too_many, "mode: 0,")] {
+            let difference = some(&Mispainted(|word| word, mistake), RANDOM_FROM, 30_000).unwrap_err();
+            assert!(difference.report.contains("a packed screen") && difference.report.contains(found_in));
         }
     }
 }

@@ -1,4 +1,7 @@
-//! The painter: refusals alone and in pairs first, then lines of hand-made and random screens.
+//! The painter: refusals alone and in pairs first, then lines of hand-made and random screens. Every third of these is in
+//! mode 1 and made for its shadow.
+
+mod shadows;
 
 use super::rooms::Rooms;
 use super::{run as drive, CaseResult, Difference, Part, Plan};
@@ -8,7 +11,9 @@ use crate::model::Model;
 use crate::parts::{Answer, Paint, PaintOrder, Settings};
 use crate::random::Random;
 
-const SCREENS: u64 = 50_000;
+const SCREENS: u64 = 75_000;
+/// The share of the screens that are made for the shadow.
+const ONE_FOR_THE_SHADOW_IN: u64 = 3;
 const LINES_A_SCREEN: usize = 8;
 
 /// Everything one call is given.
@@ -351,13 +356,17 @@ pub fn run(subject: &dyn Paint, plan: &Plan, say: &mut dyn FnMut(String)) -> Res
     let faults = (FAULTS.len() * FAULTS.len()) as u64;
     let part = Part {
         name: "paint",
-        what: "refusals alone, in pairs and threes, then lines of made and random screens",
+        what: "refusals alone, in pairs and threes, then lines of made and random screens, a third for mode 1's shadow",
         cases: faults + SCREENS,
         case: &|index, random| {
             if index < faults {
-                fault_case(subject, &fonts, index, random)
+                return fault_case(subject, &fonts, index, random);
+            }
+            let screen = index - faults;
+            if screen % ONE_FOR_THE_SHADOW_IN == 0 {
+                shadows::screen_case(subject, screen / ONE_FOR_THE_SHADOW_IN, random)
             } else {
-                screen_case(subject, &fonts, index - faults, random)
+                screen_case(subject, &fonts, screen - screen / ONE_FOR_THE_SHADOW_IN - 1, random)
             }
         },
     };
