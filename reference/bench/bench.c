@@ -196,6 +196,7 @@ static int size_of(int shape)
     return shape % 8;
 }
 
+/* A frame of 1,024 lines of as many dots. */
 static void frame(const face *f, uint32_t mode, const uint16_t *words)
 {
     static uint8_t dots[SIDE];
@@ -333,12 +334,14 @@ static void pack_glyphs(const face *f, int size)
     packed(f, size, size < DIRGEFLINT_CELLS ? size : DIRGEFLINT_CELLS, false);
 }
 
-/* Frames of 1,024 by 1,024 dots, and 1,024 lines that all go through cells. */
-#define SIZED(mode, size) \
-    { "paint", "mode " #mode ", a sparse frame, size " #size, sparse, IN_MODE(mode, size), "paint" }, \
-    { "paint", "mode " #mode ", a full frame, size " #size, full, IN_MODE(mode, size), "paint" }, \
-    { "paint", "mode " #mode ", lines through cells, size " #size, cut, IN_MODE(mode, size), "paint" },
-#define PAINTED(mode) SIZED(mode, 1) SIZED(mode, 2) SIZED(mode, 3) SIZED(mode, 4)
+/* The painter's shapes in every size and mode, those that differ in the mode alone side by side. */
+#define IN_ALL_MODES(name, work, size) \
+    { "paint", name ", size " #size ", mode 0", work, IN_MODE(0, size), "paint" }, \
+    { "paint", name ", size " #size ", mode 1", work, IN_MODE(1, size), "paint" }, \
+    { "paint", name ", size " #size ", mode 2", work, IN_MODE(2, size), "paint" }, \
+    { "paint", name ", size " #size ", mode 3", work, IN_MODE(3, size), "paint" },
+#define PAINTED(name, work) \
+    IN_ALL_MODES(name, work, 1) IN_ALL_MODES(name, work, 2) IN_ALL_MODES(name, work, 3) IN_ALL_MODES(name, work, 4)
 
 static const shape shapes[] = {
     { "pulse", "768 calls: each channel's period", pulse, 0, "pulse_level" },
@@ -349,7 +352,9 @@ static const shape shapes[] = {
     { "dac", "a reset and 500 pairs written", dac_writes, 500, "dac_reset dac_write_low dac_write_high" },
     { "port", "130 calls: the whole RAM written", port, 0,
       "port_reset port_write_address port_write_attribute port_write_character" },
-    PAINTED(0) PAINTED(1) PAINTED(2) PAINTED(3)
+    PAINTED("a sparse frame", sparse)
+    PAINTED("a full frame", full)
+    PAINTED("lines through cells", cut)
     { "hex", "a font's text written", hex_write, 0, "hex_write" },
     { "hex", "a font's text read", hex_read, 0, "hex_read" },
     { "hex", "image to font", image_to_font, 0, "image_to_font" },

@@ -217,7 +217,7 @@ static void fast_cell(uint8_t *to, uint32_t size, uint32_t row, uint8_t lit, uin
     }
 }
 
-/* Eight dots of a row in mode 1: black where `any` has a bit, which has all that `bits` has; the colour over it where `bits` has one. */
+/* Eight dots of a row in mode 1: black where `any` has a bit, and the colour over it where `bits` has one too. */
 static uint64_t fast_shaded_dots(uint32_t bits, uint32_t any, uint64_t columns, uint8_t colour)
 {
     static const uint64_t ones = 0x0101010101010101u;
@@ -285,60 +285,103 @@ static fast_row fast_find(const uint16_t *words, const dirgeflint_settings *s, u
     return row;
 }
 
-/* Paints the cells of the row that a line cuts, by the font's rows from the cut one on. Gives the dot after them. */
-static uint32_t fast_plain_row(const uint16_t *words, const uint16_t *rows, const fast_row *row, bool hidden, uint8_t mask,
-                               uint32_t left, uint8_t *dots, uint32_t width)
+/* What is painted of the row that a line cuts: its words, by the font from the cut row on. */
+typedef struct fast_cells {
+    const uint16_t *words, *end, *font;
+    uint8_t *dots;
+    uint32_t left, width;
+    bool hidden, boxed;
+    uint8_t background;
+} fast_cells;
+
+#define FAST_INLINE static inline __attribute__((always_inline))
+#define FAST_APART static __attribute__((noinline))
+
+/* Paints cells of a size that the compiler knows. Gives the dot after them. */
+FAST_INLINE uint32_t fast_plain_row(const fast_cells c, uint32_t size)
 {
-    uint8_t background = row->background;
-    for (uint32_t i = row->word; i < 64 && left < width; i++) {
-        uint32_t code = words[i] >> 4, attributes = words[i] & 15, bits = 0;
+    uint8_t background = c.background, mask = c.boxed ? 255 : 0;
+    uint32_t left = c.left;
+    for (const uint16_t *word = c.words; word < c.end && left < c.width; word++) {
+        uint32_t code = *word >> 4, attributes = *word & 15, bits = 0;
         if (code == 62)
             break;
         if (code == 63) {
             if (attributes & 1)
                 break;
             background = (uint8_t)(8 + (attributes >> 1));
-        } else if (!(hidden && (attributes & 1)))
-            bits = rows[18 * code];
+        } else if (!(c.hidden && (attributes & 1)))
+            bits = c.font[18 * code];
         uint8_t lit = (uint8_t)(8 + (attributes >> 1)), unlit = background & mask;
-        if (left + 12 * row->size <= width)
-            fast_cell(dots + left, row->size, bits, lit, unlit);
+        if (left + 12 * size <= c.width)
+            fast_cell(c.dots + left, size, bits, lit, unlit);
         else {
             uint8_t whole[48];
-            fast_cell(whole, row->size, bits, lit, unlit);
-            memcpy(dots + left, whole, width - left);
+            fast_cell(whole, size, bits, lit, unlit);
+            memcpy(c.dots + left, whole, c.width - left);
         }
-        left += 12 * row->size;
+        left += 12 * size;
     }
     return left;
 }
 
-/* The same in mode 1, by the font's rows from the one above: it throws its shadow one column to the right. */
-static uint32_t fast_shaded_row(const uint16_t *words, const uint16_t *rows, const fast_row *row, bool hidden, uint32_t left,
-                                uint8_t *dots, uint32_t width)
+/* The same in mode 1 below the first font row: the row above throws its shadow one column to the right. */
+FAST_INLINE uint32_t fast_shaded_row(const fast_cells c, uint32_t size)
 {
-    uint32_t thrown = 0; /* by the cell before, whose last column falls on the next cell's first */
-    for (uint32_t i = row->word; i < 64 && left < width; i++) {
-        uint32_t code = words[i] >> 4, attributes = words[i] & 15, bits = 0, above = 0;
+    uint32_t left = c.left, thrown = 0; /* by the cell before: its last column falls on the next cell's first */
+    for (const uint16_t *word = c.words; word < c.end && left < c.width; word++) {
+        uint32_t code = *word >> 4, attributes = *word & 15, bits = 0, above = 0;
         if (code == 62 || (code == 63 && (attributes & 1)))
             break;
-        if (code < 62 && !(hidden && (attributes & 1))) {
-            above = rows[18 * code];
-            bits = rows[18 * code + 1];
+        if (code < 62 && !(c.hidden && (attributes & 1))) {
+            const uint16_t *cut = c.font + 18 * code;
+            bits = cut[0];
+            above = cut[-1];
         }
         thrown = thrown << 12 | above;
-        if (left + 12 * row->size <= width)
-            fast_shaded_cell(dots + left, row->size, bits, thrown >> 1 & 4095, (uint8_t)(attributes >> 1));
+        uint32_t shadow = thrown >> 1 & 4095;
+        uint8_t colour = (uint8_t)(attributes >> 1);
+        if (left + 12 * size <= c.width)
+            fast_shaded_cell(c.dots + left, size, bits, shadow, colour);
         else {
             uint8_t whole[48];
-            fast_shaded_cell(whole, row->size, bits, thrown >> 1 & 4095, (uint8_t)(attributes >> 1));
-            memcpy(dots + left, whole, width - left);
+            fast_shaded_cell(whole, size, bits, shadow, colour);
+            memcpy(c.dots + left, whole, c.width - left);
         }
-        left += 12 * row->size;
+        left += 12 * size;
     }
-    for (uint32_t i = 0; (thrown & 1) && i < row->size && left < width; i++)
-        dots[left++] = 8;
+    for (uint32_t i = 0; (thrown & 1) && i < size && left < c.width; i++)
+        c.dots[left++] = 8;
     return left;
+}
+
+/* Each size has a loop of its own, and each kind of row a function, so that there are registers enough. */
+FAST_APART uint32_t fast_plain_cells(const fast_cells *c, uint32_t size)
+{
+    switch (size) {
+    case 1:
+        return fast_plain_row(*c, 1);
+    case 2:
+        return fast_plain_row(*c, 2);
+    case 3:
+        return fast_plain_row(*c, 3);
+    default:
+        return fast_plain_row(*c, 4);
+    }
+}
+
+FAST_APART uint32_t fast_shaded_cells(const fast_cells *c, uint32_t size)
+{
+    switch (size) {
+    case 1:
+        return fast_shaded_row(*c, 1);
+    case 2:
+        return fast_shaded_row(*c, 2);
+    case 3:
+        return fast_shaded_row(*c, 3);
+    default:
+        return fast_shaded_row(*c, 4);
+    }
 }
 
 static dirgeflint_answer fast_paint(const uint16_t *words, size_t words_length, const uint16_t *font,
@@ -356,11 +399,13 @@ static dirgeflint_answer fast_paint(const uint16_t *words, size_t words_length, 
     uint32_t quarter = 4u << s.frequency;
     bool hidden = (frame & (4 * quarter - 1)) >= (3 - s.ratio) * quarter;
     fast_row row = fast_find(words, &s, line);
-    uint32_t start = 4 * s.h, left = start, cut = row.word < 64 ? (line - row.top) / row.size : 0;
-    if (s.mode == 1 && cut > 0)
-        left = fast_shaded_row(words, font + cut - 1, &row, hidden, start, dots, width);
-    else
-        left = fast_plain_row(words, font + cut, &row, hidden, s.mode >= 2 ? 255 : 0, start, dots, width);
+    uint32_t start = 4 * s.h, left = start;
+    if (row.word < 64) {
+        uint32_t cut = (line - row.top) / row.size;
+        bool shaded = s.mode == 1 && cut > 0, boxed = s.mode >= 2;
+        fast_cells cells = { words + row.word, words + 64, font + cut, dots, start, width, hidden, boxed, row.background };
+        left = shaded ? fast_shaded_cells(&cells, row.size) : fast_plain_cells(&cells, row.size);
+    }
     /* No dot is laid twice: outside is filled where no cell is. */
     if (left == start)
         memset(dots, outside, width);
