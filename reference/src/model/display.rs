@@ -63,10 +63,12 @@ pub struct Glyph {
 }
 
 impl Cell {
+    fn has_line(&self, line: u32) -> bool {
+        self.top <= line && line < self.top + 18 * self.size
+    }
+
     fn covers(&self, dot: u32, line: u32) -> bool {
-        let width = 12 * self.size;
-        let height = 18 * self.size;
-        self.left <= dot && dot < self.left + width && self.top <= line && line < self.top + height
+        self.left <= dot && dot < self.left + 12 * self.size && self.has_line(line)
     }
 }
 
@@ -124,32 +126,44 @@ pub fn blink_lit(ratio: u32, frequency: u32, frame: u32) -> bool {
 /// Whether the character of a code has its dot lit in a row and a column.
 pub type Dots<'a> = &'a dyn Fn(usize, usize, usize) -> bool;
 
-/// Whether a glyph has its dot lit at a dot and a line of its cell.
-fn glyph_lit(glyph: &Glyph, cell: &Cell, dot: u32, line: u32, dots: Dots, shown: bool) -> bool {
-    if glyph.blink && !shown {
+/// Whether a cell has its font dot lit at a place; a space has none, and neither has a character that is blinked out.
+fn lit(cell: &Cell, dots: Dots, shown: bool, dot: u32, line: u32) -> bool {
+    let Some(glyph) = cell.glyph.filter(|glyph| shown || !glyph.blink) else {
         return false;
-    }
+    };
     let column = (dot - cell.left) / cell.size;
     let row = (line - cell.top) / cell.size;
     dots(usize::from(glyph.code), row as usize, column as usize)
 }
 
+/// Whether a cell throws its shadow on a place: on one of its own lines, where one font dot to the left and one above
+/// it is lit. Its right edge is no bound, so its last column throws the shadow beside the cell.
+fn throws_shadow(cell: &Cell, dots: Dots, shown: bool, dot: u32, line: u32) -> bool {
+    let (Some(left), Some(above)) = (dot.checked_sub(cell.size), line.checked_sub(cell.size)) else {
+        return false;
+    };
+    cell.has_line(line) && cell.covers(left, above) && lit(cell, dots, shown, left, above)
+}
+
 /// The painted byte at one place of the screen.
 fn dot_at(cells: &[Cell], dots: Dots, settings: &Settings, frame: u32, dot: u32, line: u32) -> u8 {
     const VIDEO: u8 = 0;
+    const BLACK: u16 = 0;
     let painted = |colour: u16| 8 + colour as u8;
 
     if !settings.on {
         return VIDEO;
     }
-    let Some(cell) = cells.iter().find(|cell| cell.covers(dot, line)) else {
-        return if settings.mode == 3 { painted(settings.colour as u16) } else { VIDEO };
-    };
     let shown = blink_lit(settings.ratio, settings.frequency, frame);
-    match &cell.glyph {
-        Some(glyph) if glyph_lit(glyph, cell, dot, line, dots, shown) => painted(glyph.colour),
-        _ if settings.mode >= 2 => painted(cell.background),
-        _ => VIDEO,
+    let cell = cells.iter().find(|cell| cell.covers(dot, line));
+    if let Some(Cell { glyph: Some(glyph), .. }) = cell.filter(|cell| lit(cell, dots, shown, dot, line)) {
+        return painted(glyph.colour);
+    }
+    match settings.mode {
+        1 if cells.iter().any(|cell| throws_shadow(cell, dots, shown, dot, line)) => painted(BLACK),
+        0 | 1 => VIDEO,
+        2 => cell.map_or(VIDEO, |cell| painted(cell.background)),
+        _ => painted(cell.map_or(settings.colour as u16, |cell| cell.background)),
     }
 }
 
@@ -341,6 +355,177 @@ mod tests {
         assert_eq!(painted(&words, &font, settings(0), 0, 0, 5), [15; 5]);
         let big: Vec<u16> = [1004].into_iter().chain([14; 63]).collect();
         assert_eq!(painted(&big, &font, settings(0), 0, 18, 1024), [15; 1024]);
+    }
+
+    /// A font with these dots lit, each by cell, row and column.
+    fn font_of(lit: &[(usize, usize, usize)]) -> Vec<u16> {
+        font(|cell, row| (0..12).fold(0, |bits, column| 2 * bits + u16::from(lit.contains(&(cell, row, column)))))
+    }
+
+    /// Some lines of a screen in mode 1: `.` is video, `o` black and `#` any other colour.
+    fn with_shadow(words: &[u16], font: &[u16], frame: u32, lines: &[u32], width: u32) -> Vec<String> {
+        let seen = |byte| match byte {
+            0 => '.',
+            8 => 'o',
+            _ => '#',
+        };
+        let words = screen(words);
+        let line = |&line| painted(&words, font, settings(1), frame, line, width).into_iter().map(seen).collect();
+        lines.iter().map(line).collect()
+    }
+
+    #[test]
+    fn a_dot_throws_its_shadow_on_the_dot_right_of_it_and_below() {
+        let font = font_of(&[(0, 3, 1)]);
+        assert_eq!(with_shadow(&[14, 1009], &font, 0, &[2, 3, 4, 5], 5), [".....", ".#...", "..o..", "....."]);
+    }
+
+    #[test]
+    fn the_shadow_grows_with_the_size() {
+        // Size 2: a block of two by two, as the dot is, with only a corner in common.
+        let font = font_of(&[(0, 1, 1)]);
+        let small = ["........", "........", "..##....", "..##....", "....oo..", "....oo..", "........"];
+        assert_eq!(with_shadow(&[996, 14, 1009], &font, 0, &[18, 19, 20, 21, 22, 23, 24], 8), small);
+        let large = with_shadow(&[1004, 14, 1009], &font, 0, &[22, 25, 26, 29, 30], 13);
+        assert_eq!(large, ["....####.....", "....####.....", "........oooo.", "........oooo.", "............."]);
+        let third = with_shadow(&[1000, 14, 1009], &font, 0, &[21, 23, 24, 26, 27], 10);
+        assert_eq!(third, ["...###....", "...###....", "......ooo.", "......ooo.", ".........."]);
+    }
+
+    #[test]
+    fn a_worked_line_with_a_shadow() {
+        // The worked font row at size 2: a character, a space and a character; the lines are of its font rows 0 to 2.
+        let words = screen(&[996, 14, 1016, 14, 1009]);
+        let mut font = vec![0; FONT_ROWS];
+        font[0] = 2049;
+        let line = |line| painted(&words, &font, settings(1), 0, line, 76);
+        let of = |byte: u8, places: [u32; 4]| -> Vec<u8> {
+            (0..76).map(|dot| if places.contains(&(dot / 2)) { byte } else { 0 }).collect()
+        };
+        for (row, due) in [of(15, [0, 11, 24, 35]), of(8, [1, 12, 25, 36]), vec![0; 76]].into_iter().enumerate() {
+            assert_eq!(line(18 + 2 * row as u32), due);
+            assert_eq!(line(19 + 2 * row as u32), due);
+        }
+    }
+
+    #[test]
+    fn a_lit_dot_is_not_in_the_shadow() {
+        // A bar of two rows and two columns, in black too.
+        let font = font_of(&[(0, 0, 0), (0, 0, 1), (0, 1, 0), (0, 1, 1)]);
+        assert_eq!(with_shadow(&[14, 1009], &font, 0, &[0, 1, 2, 3], 4), ["##..", "##o.", ".oo.", "...."]);
+        assert_eq!(with_shadow(&[0, 1009], &font, 0, &[0, 1, 2, 3], 4), ["oo..", "ooo.", ".oo.", "...."]);
+        // Of the next cell as well.
+        let font = font_of(&[(0, 0, 11), (1, 1, 0)]);
+        assert_eq!(
+            with_shadow(&[14, 30, 1009], &font, 0, &[0, 1, 2], 14),
+            ["...........#..", "............#.", ".............o"]
+        );
+    }
+
+    #[test]
+    fn the_shadow_runs_on_into_the_next_cell_whatever_it_is() {
+        let font = font_of(&[(0, 4, 11), (1, 9, 5)]);
+        let line = "............o...";
+        // A character, a space of any colour, a blinking character in and out of its lit part, and nothing at all.
+        for next in [30, 1008, 1016, 1022, 31, 1009, 992] {
+            assert_eq!(with_shadow(&[14, next, 1009], &font, 11, &[5], 16), [line], "{next}");
+            assert_eq!(with_shadow(&[14, next, 1009], &font, 12, &[5], 16), [line], "{next}");
+        }
+    }
+
+    #[test]
+    fn the_shadow_runs_on_past_the_last_cell_and_one_font_dot_only() {
+        let font = font_of(&[(0, 0, 11)]);
+        // Rows of one cell that a return or an end closes, one of each size.
+        let words = [14, 996, 14, 1000, 14, 1004, 14, 1009];
+        for (size, top) in [(1, 0), (2, 18), (3, 54), (4, 108)] {
+            let lines: Vec<u32> = (0..18).map(|row| top + row * size + size - 1).collect();
+            let seen = with_shadow(&words, &font, 0, &lines, 24 * size);
+            let of_size = |dots: &str| dots.chars().flat_map(|dot| vec![dot; size as usize]).collect::<String>();
+            assert_eq!(seen[0], of_size("...........#............"));
+            assert_eq!(seen[1], of_size("............o..........."));
+            assert!(seen[2..].iter().all(|line| *line == of_size("........................")));
+        }
+        // A row that ends with word 63.
+        let all = with_shadow(&[14; 64], &font, 0, &[1], 780);
+        assert_eq!(all, [".".repeat(12) + &"o...........".repeat(64)]);
+    }
+
+    #[test]
+    fn only_a_character_that_is_shown_throws_a_shadow() {
+        let font = font_of(&[(0, 4, 3), (0, 4, 11)]);
+        let lines = [4, 5];
+        // Lit in frame 11 and out in frame 12.
+        let both = ["...#.......#..", "....o.......o."];
+        assert_eq!(with_shadow(&[15, 1008, 1009], &font, 11, &lines, 14), both);
+        assert_eq!(with_shadow(&[15, 1008, 1009], &font, 12, &lines, 14), ["..............", ".............."]);
+        assert_eq!(with_shadow(&[14, 1008, 1009], &font, 12, &lines, 14), both);
+        // The one beside it is not concerned.
+        let second = ["...............#.......#..", "................o.......o."];
+        assert_eq!(with_shadow(&[15, 14, 1009], &font, 12, &lines, 26), second);
+        let first = ["...#.......#..............", "....o.......o............."];
+        assert_eq!(with_shadow(&[14, 15, 1009], &font, 12, &lines, 26), first);
+        // A space has no dots, whatever the font.
+        let full = vec![4095; FONT_ROWS];
+        let middle = "............############o.............";
+        assert_eq!(with_shadow(&[1016, 14, 1008, 1009], &full, 0, &[1], 38), [middle]);
+    }
+
+    #[test]
+    fn a_cells_first_line_has_no_shadow_and_none_runs_below_its_last() {
+        // Two rows of cells without a gap between them, lit all over but for the first column.
+        let font = font(|_, _| 0x7FF);
+        let picture = with_shadow(&[14, 14, 992, 14, 1009], &font, 0, &[0, 1, 17, 18, 19, 35, 36], 26);
+        let two = ".###########o###########o.";
+        let one = ".###########o.............";
+        let first = ".###########.###########..";
+        let under_it = ".###########..............";
+        assert_eq!(picture, [first, two, two, under_it, one, one, ".........................."]);
+        // The last row by itself throws none at all.
+        let font = font_of(&[(0, 17, 0), (0, 17, 5), (0, 17, 11)]);
+        let picture = with_shadow(&[14, 992, 14, 1009], &font, 0, &[16, 17, 18, 19, 34, 35, 36], 13);
+        let (lit, none) = ("#....#.....#.", ".............");
+        assert_eq!(picture, [none, lit, none, none, none, lit, none]);
+    }
+
+    #[test]
+    fn the_shadow_of_a_rows_last_cell_is_not_carried_to_the_next_row() {
+        // Every row but the last is lit in the last column.
+        let font = font(|_, row| u16::from(row < 17));
+        for turn in [992, 993, 996, 997, 1007] {
+            let words = [14, 14, turn, 1016, 30, 1009];
+            let next = cells(&screen(&words), &settings(1))[2];
+            for line in next.top..next.top + 18 * next.size {
+                let seen = &with_shadow(&words, &font, 0, &[line], 12 * next.size)[0];
+                assert!(seen.chars().all(|dot| dot == '.'), "{turn}, line {line}: {seen}");
+            }
+        }
+    }
+
+    #[test]
+    fn the_width_cuts_through_the_shadow() {
+        let font = font_of(&[(0, 0, 11)]);
+        let whole = ".".repeat(48) + "oooo" + &".".repeat(8);
+        for width in 45..60 {
+            assert_eq!(with_shadow(&[1004, 14, 1009], &font, 0, &[22], width)[0], whole[..width as usize]);
+        }
+    }
+
+    #[test]
+    fn the_other_modes_have_no_shadow_and_neither_has_a_display_that_is_off() {
+        let words = screen(&[14, 1016, 1009]);
+        let font = font_of(&[(0, 0, 2), (0, 0, 11)]);
+        assert_eq!(painted(&words, &font, settings(0), 0, 1, 26), [0; 26]);
+        let mut boxes = vec![9; 12];
+        boxes.extend([12; 12]);
+        boxes.extend([0; 2]);
+        assert_eq!(painted(&words, &font, settings(2), 0, 1, 26), boxes);
+        boxes[24..].fill(9);
+        assert_eq!(painted(&words, &font, settings(3), 0, 1, 26), boxes);
+        assert_eq!(painted(&words, &font, Settings { on: false, ..settings(1) }, 0, 1, 26), [0; 26]);
+        let mut shadow = [0; 26];
+        (shadow[3], shadow[12]) = (8, 8);
+        assert_eq!(painted(&words, &font, settings(1), 0, 1, 26), shadow);
     }
 
     #[test]

@@ -264,4 +264,32 @@ mod tests {
             );
         }
     }
+
+    #[test]
+    fn a_screen_of_glyphs_has_the_shadow_of_its_drawings() {
+        // Glyph 200 has the last dot of its first row lit, and 201 the first dot of its second.
+        let mut rows = vec![0; 256 * ROWS];
+        rows[200 * ROWS] = 1;
+        rows[201 * ROWS + 1] = 0x800;
+        let glyphs = drawn(&rows);
+        let named = |code, blink| Kind::Character { code, colour: 7, blink };
+        let line = |screen: &[Kind], mode, line| {
+            let settings = Settings { on: true, mode, colour: 1, h: 0, v: 0, ratio: 0, frequency: 0 };
+            let mut dots = [99; 26];
+            // A frame in which blinking characters are out.
+            picture(screen, &glyphs, &settings, 12, line, &mut dots);
+            dots
+        };
+        let lit_at = |place, byte| from_fn(|dot| if dot == place { byte } else { 0 });
+        let screen = [named(200, false), named(0, false), Kind::End];
+        assert_eq!(line(&screen, 1, 0), lit_at(11, 15));
+        assert_eq!(line(&screen, 1, 1), lit_at(12, 8));
+        assert_eq!(line(&screen, 0, 1), [0; 26]);
+        let space = Kind::Space { background: 4 };
+        assert_eq!(line(&[named(0, false), named(200, false), Kind::End], 1, 1), lit_at(24, 8));
+        assert_eq!(line(&[named(200, false), space, Kind::End], 1, 1), lit_at(12, 8));
+        assert_eq!(line(&[named(200, false), named(201, true), Kind::End], 1, 1), lit_at(12, 8));
+        assert_eq!(line(&[named(200, false), named(201, false), Kind::End], 1, 1), lit_at(12, 15));
+        assert_eq!(line(&[named(200, true), space, Kind::End], 1, 1), [0; 26]);
+    }
 }
