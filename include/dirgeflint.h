@@ -407,8 +407,8 @@ dirgeflint_answer dirgeflint_image_to_font(const uint8_t *image, size_t image_le
  *         17: more than 62 different glyphs
  *          6: font_length below 1,116, or cells_length below the number of glyphs
  *
- * On a set a cell has one row more, which is hidden and in mode 1 throws its shadow on the cell's first line (S51): glyphs that would differ
- * only there share a cell.
+ * On a set a cell has one row more, which is hidden, and in mode 1 throws its shadow on the first row that shows (S51): glyphs that would
+ * differ only there share a cell.
  */
 dirgeflint_answer dirgeflint_pack(const uint16_t *glyphs, size_t glyphs_length, uint16_t *font, size_t font_length, uint8_t *cells,
                                   size_t cells_length);
