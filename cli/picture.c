@@ -5,30 +5,44 @@ static dirgeflint_answer paint_line(const struct scene *scene, uint32_t line, ui
     return dirgeflint_paint(scene->words, DIRGEFLINT_WORDS, scene->font, DIRGEFLINT_FONT_ROWS, scene->settings, scene->frame, line, width, dots, width);
 }
 
-/* In mode 2, with the display on, a dot is video just where no cell covers it. */
-static struct scene with_cells_shown(const struct scene *scene)
+/* The scene in another mode, with the display on and in a frame in which every character shows. */
+static struct scene shown_in(const struct scene *scene, uint32_t mode)
 {
-    struct scene covered = *scene;
-    covered.settings.on = true;
-    covered.settings.mode = 2;
-    return covered;
+    struct scene shown = *scene;
+    shown.settings.on = true;
+    shown.settings.mode = mode;
+    shown.frame = 0;
+    return shown;
 }
 
-dirgeflint_answer measure(const struct scene *scene, struct picture *picture)
+/* Makes width and lines as large as it takes for all dots of the scene that are not video. */
+static dirgeflint_answer include_dots(const struct scene *scene, uint32_t *width, uint32_t *lines)
 {
-    struct scene covered = with_cells_shown(scene);
     uint8_t dots[DIRGEFLINT_MOST_WIDTH];
-    uint32_t width = 1, lines = 1;
     dirgeflint_answer answer = { DIRGEFLINT_ACCEPTED, 0, 0 };
     for (uint32_t line = 0; line <= DIRGEFLINT_MOST_LINE && answer.number == DIRGEFLINT_ACCEPTED; line++) {
-        answer = paint_line(&covered, line, DIRGEFLINT_MOST_WIDTH, dots);
+        answer = paint_line(scene, line, DIRGEFLINT_MOST_WIDTH, dots);
         uint32_t reach = answer.number == DIRGEFLINT_ACCEPTED ? DIRGEFLINT_MOST_WIDTH : 0;
         while (reach > 0 && dots[reach - 1] == DIRGEFLINT_VIDEO)
             reach--;
-        if (reach > width)
-            width = reach;
-        if (reach > 0)
-            lines = line + 1;
+        if (reach > *width)
+            *width = reach;
+        if (reach > 0 && line >= *lines)
+            *lines = line + 1;
+    }
+    return answer;
+}
+
+/* In mode 2 a dot is video just where no cell covers it; in mode 1 a shadow may lie right of the cells. */
+dirgeflint_answer measure(const struct scene *scene, struct picture *picture)
+{
+    enum { SHADOWS = 1, BOXES = 2 };
+    uint32_t width = 1, lines = 1;
+    struct scene shown = shown_in(scene, BOXES);
+    dirgeflint_answer answer = include_dots(&shown, &width, &lines);
+    if (answer.number == DIRGEFLINT_ACCEPTED && scene->settings.mode == SHADOWS) {
+        shown = shown_in(scene, SHADOWS);
+        answer = include_dots(&shown, &width, &lines);
     }
     if (picture->width == 0)
         picture->width = width;

@@ -19,7 +19,7 @@ struct picture {
     uint8_t *dots; /* line by line, to be freed */
 };
 
-/* Makes the width and the lines what the scene's cells reach, where they are 0. */
+/* Makes the width and the lines what the scene's cells reach, where they are 0; in mode 1 what their shadows reach, in whatever frame they show. */
 dirgeflint_answer measure(const struct scene *scene, struct picture *picture);
 
 /* Paints all lines to dots, which has the room. */

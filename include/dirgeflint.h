@@ -24,10 +24,13 @@
 #include <stddef.h>
 #include <stdint.h>
 
-/* The minor number goes up when something is added, the major one when a host has to be compiled again. CHANGELOG.md tells what changed. */
+/*
+ * The minor number goes up when something is added or shows otherwise than before, the major one when a host has to be compiled again.
+ * CHANGELOG.md tells what changed.
+ */
 #define DIRGEFLINT_VERSION_MAJOR 1
-#define DIRGEFLINT_VERSION_MINOR 1
-#define DIRGEFLINT_VERSION "1.1"
+#define DIRGEFLINT_VERSION_MINOR 2
+#define DIRGEFLINT_VERSION "1.2"
 
 #ifdef __cplusplus
 extern "C" {
@@ -273,23 +276,32 @@ void dirgeflint_port_write_character(dirgeflint_port *port, uint8_t byte);
  * shows), else 8 plus a colour. What it is depends on the mode:
  *
  *   mode    lit dot of a character    unlit dot, or a space's cell    outside every cell
- *   0, 1    the character's colour    video                           video
+ *   0       the character's colour    video                           video
+ *   1       the character's colour    black in a shadow, else video   black in a shadow, else video
  *   2       the character's colour    the background                  video
  *   3       the character's colour    the background                  the settings' colour
  *
  * Outside is all that no cell covers: left of dot 4h, above line 4v, between and beside rows, below the end.
  *
- * Blinking goes in runs of D frames, counted from frame 0, and a character that blinks shows its lit dots in the first part of each run:
- * three quarters, a half or a quarter of it for ratio 0, 1, 2. In the rest it has no lit dot, and keeps its background. D is 16, 32, 64 or
- * 128 for frequency 0 to 3.
+ * The shadow of mode 1 is as by a light at the upper left. Each lit dot of a character throws one, as large as itself, one dot of the font to
+ * the right and one below: s dots and s lines away in a row of size s. A dot in it that no character lights is black, 8, whatever colours
+ * spaces have. The shadow runs on into the next cell of the row, be it a character, dark or not, or a space; and past the row's last cell,
+ * however the row ends, where it is s dots wide at most. It never falls below the bottom line of its own cell: so the lowest of a cell's 18
+ * rows throws none, and nothing falls on the row of cells below. Spaces throw no shadow, nor do characters that are dark by blinking.
  *
- * On a set: rows start five dots further right (S6); mode 1 has a shadow (S22); in mode 3 unlit dots have the one colour of register 37,
- * whatever spaces say (S21); boxes before the first space are blue (S20); the PCE84C886 enlarges heights only (S10); each field of an
- * interlaced picture counts as a frame (S28).
+ * Blinking goes in runs of D frames, counted from frame 0, and a character that blinks shows its lit dots in the first part of each run:
+ * three quarters, a half or a quarter of it for ratio 0, 1, 2. In the rest it has no lit dot and no shadow, and keeps its background. D is
+ * 16, 32, 64 or 128 for frequency 0 to 3.
+ *
+ * On a set: rows start five dots further right (S6); in mode 1 only sizes 2 and 4 have a shadow, whose depth may be another (S22), its colour
+ * is that of the latest space, blue before the first (S23), and what of it falls on a steady character stays while its own one is dark (S31);
+ * in mode 3 unlit dots have the one colour of register 37, whatever spaces say (S21); boxes before the first space are blue (S20); the
+ * PCE84C886 enlarges heights only (S10), and its shadow is below the characters only (S22); each field of an interlaced picture counts as a
+ * frame (S28).
  */
 enum {
     DIRGEFLINT_VIDEO = 0,   /* a dot that shows the television picture */
-    DIRGEFLINT_COLOURED = 8 /* plus a colour: any other dot */
+    DIRGEFLINT_COLOURED = 8 /* plus a colour: any other dot; with black, 8, it is a shadow of mode 1 as well */
 };
 
 typedef struct dirgeflint_settings {
@@ -395,7 +407,8 @@ dirgeflint_answer dirgeflint_image_to_font(const uint8_t *image, size_t image_le
  *         17: more than 62 different glyphs
  *          6: font_length below 1,116, or cells_length below the number of glyphs
  *
- * On a set a cell has one row more, which is hidden (S51): glyphs that would differ only there share a cell.
+ * On a set a cell has one row more, which is hidden, and in mode 1 throws its shadow on the first row that shows (S51): glyphs that would
+ * differ only there share a cell.
  */
 dirgeflint_answer dirgeflint_pack(const uint16_t *glyphs, size_t glyphs_length, uint16_t *font, size_t font_length, uint8_t *cells,
                                   size_t cells_length);

@@ -8,6 +8,7 @@ use super::glyphs::{drawings, sum, Packed};
 use super::program::Program;
 use super::table::{SAMPLE_DRAWING, SAMPLE_TEXT};
 use super::{run, Group, Plan};
+use crate::parts::Settings;
 use std::path::PathBuf;
 use std::time::Duration;
 
@@ -227,6 +228,31 @@ fn what_pack_refuses_is_looked_at() {
             (&right.replace("exit 1", "exit 2"), "status 2, and 1 is due"),
         ],
     );
+}
+
+#[test]
+fn a_shadow_is_looked_at() {
+    // The block lights its whole cell: its shadow is right of it, but for the first line, and makes the picture wider.
+    let paint = Paint { words: "--mode 1 --lines 3".to_string(), lines: Some(3), ..Paint::new(b"174\n", SAMPLE_TEXT) };
+    let paint = Paint { settings: Settings { mode: 1, ..paint.settings }, ..paint };
+    let right = "printf '############%s\\n' ' ' . .";
+    finds(
+        "shadow",
+        &paint.case("shadow"),
+        right,
+        &[
+            (&right.replace('.', "' '"), "standard output differs at byte 26"),
+            (&right.replace("' '", "."), "standard output differs at byte 12"),
+            (&right.replace('.', ":"), "standard output differs at byte 26"),
+            (&right.replace(" . .", " . ' '"), "standard output differs at byte 40"),
+            (&right.replace("%s", "%s%s"), "standard output differs at byte 13"),
+            (&right.replace("' ' . .", "'' '' ''"), "standard output differs at byte 12"),
+        ],
+    );
+    let dark = Paint { screen: ("s", b"175\n"), frame: 12, words: format!("{} --frame 12", paint.words), ..paint };
+    let right = "printf '%13s\\n' '' '' ''";
+    let wrong = [("printf '%12s\\n' '' '' ''", "standard output differs"), ("printf '%13s\\n' '' . .", "byte 26")];
+    finds("dark-shadow", &dark.case("dark shadow"), right, &wrong);
 }
 
 #[test]

@@ -196,24 +196,23 @@ fn option(words: &mut String, name: &str, value: u32, random: &mut Random) -> u3
     value
 }
 
-/// Settings, and how they are typed; most are left at their defaults.
+/// Settings, and how they are typed; most are left at their defaults. Of the modes it is mostly the one with shadows.
 pub fn random_settings(paint: &mut Paint, random: &mut Random) {
     let mut words = String::new();
-    let mut some = |name: &str, default: u32, limit: usize, random: &mut Random| {
+    let mut some = |name: &str, default: u32, value: u32, random: &mut Random| {
         if random.one_in(2) {
             return default;
         }
-        let value = random.below(limit) as u32;
         option(&mut words, name, value, random)
     };
     paint.settings = Settings {
         on: true,
-        mode: some("--mode", 2, 4, random),
-        colour: some("--colour", 0, 8, random),
-        h: some("--h", 0, 64, random),
-        v: some("--v", 0, 64, random),
-        ratio: some("--ratio", 0, 3, random),
-        frequency: some("--frequency", 0, 4, random),
+        mode: some("--mode", 2, random.pick(&[0, 1, 1, 1, 2, 3]), random),
+        colour: some("--colour", 0, random.below(8) as u32, random),
+        h: some("--h", 0, random.below(64) as u32, random),
+        v: some("--v", 0, random.below(64) as u32, random),
+        ratio: some("--ratio", 0, random.below(3) as u32, random),
+        frequency: some("--frequency", 0, random.below(4) as u32, random),
     };
     if random.one_in(12) {
         words += " --off";

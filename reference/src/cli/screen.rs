@@ -97,13 +97,29 @@ pub struct Picture {
 
 impl Scene {
     /// How many dots and lines the cells reach. What starts past the last dot or line is not seen, and does not count.
-    fn reach(&self) -> (u32, u32) {
+    fn reach_of_cells(&self) -> (u32, u32) {
         let seen =
             cells_of(&self.words, &self.settings).into_iter().filter(|cell| cell.left < WIDEST && cell.top < WIDEST);
         seen.fold((1, 1), |(width, lines), cell| {
             let (right, bottom) = (cell.left + 12 * cell.size, cell.top + 18 * cell.size);
             (width.max(right.min(WIDEST)), lines.max(bottom.min(WIDEST)))
         })
+    }
+
+    /// The same, and in mode 1 with the shadows right of all cells, on or off and whatever the frame: in frame 0 every
+    /// character shows. A shadow is never lower than its cell.
+    fn reach(&self) -> (u32, u32) {
+        let (width, lines) = self.reach_of_cells();
+        if self.settings.mode != 1 {
+            return (width, lines);
+        }
+        let settings = Settings { on: true, ..self.settings };
+        let dots_of = |line| {
+            let mut painted = vec![0; WIDEST.min(width + 4) as usize];
+            pack::picture(&self.words, &self.glyphs, &settings, 0, line, &mut painted);
+            painted.iter().rposition(|&dot| dot != 0).map_or(0, |last| last as u32 + 1)
+        };
+        ((0..lines).map(dots_of).fold(width, u32::max), lines)
     }
 
     pub fn picture(&self) -> Picture {
@@ -255,6 +271,44 @@ mod tests {
         // Rows of size 4 with 12 lines between them: the one at line 954 is cut, the one at 1038 is not seen.
         assert_eq!(size(&[[1007; 12].as_slice(), &[14]].concat(), 0, 0), (48, 1024));
         assert_eq!(size(&[[1007; 13].as_slice(), &[14]].concat(), 0, 0), (1, 1));
+    }
+
+    #[test]
+    fn in_mode_1_a_picture_is_as_wide_as_its_shadows() {
+        // The last dot of cell 0's first row is lit, and of cell 1's last row, which throws no shadow.
+        let sized = |words: &[u16], settings: Settings, frame| {
+            let mut scene = scene(words, settings);
+            let mut rows = vec![0; FONT_ROWS];
+            (rows[0], rows[18 + 17]) = (1, 1);
+            scene.glyphs = pack::drawn(&rows);
+            let picture = Scene { frame, ..scene }.picture();
+            (picture.width, picture.lines)
+        };
+        let mode = |mode| Settings { mode, ..DEFAULTS };
+        for other in [0, 2, 3] {
+            assert_eq!(sized(&[14], mode(other), 0), (12, 18));
+        }
+        assert_eq!(sized(&[14], mode(1), 0), (13, 18));
+        assert_eq!(sized(&[30], mode(1), 0), (12, 18));
+        // Off, blinked out, in a lower row of another size, and a cell beside it that takes the shadow up.
+        assert_eq!(sized(&[14], Settings { on: false, ..mode(1) }, 0), (13, 18));
+        assert_eq!(sized(&[15], mode(1), 12), (13, 18));
+        assert_eq!(sized(&[30, 1000, 14], mode(1), 0), (39, 18 + 54));
+        assert_eq!(sized(&[14, 1016], mode(1), 0), (24, 18));
+        assert_eq!(sized(&[14, 30, 992, 14], mode(1), 0), (24, 36));
+        // At the last dot: 60 and 20 cells of 48 leave room for the shadow, 64 and 20 do not.
+        let row = [[1004].as_slice(), &[14; 20]].concat();
+        assert_eq!(sized(&row, Settings { h: 15, ..mode(1) }, 0), (1024, 90));
+        assert_eq!(sized(&row, Settings { h: 14, ..mode(1) }, 0), (1020, 90));
+        assert_eq!(sized(&row, Settings { h: 16, ..mode(1) }, 0), (1024, 90));
+    }
+
+    #[test]
+    fn a_shadow_is_black_and_not_video() {
+        let settings = Settings { mode: 1, ..DEFAULTS };
+        let picture = Scene { width: Some(14), lines: Some(2), ..scene(&[14], settings) }.picture();
+        assert_eq!(picture.text(), b"#          #  \n .          . \n");
+        assert!(picture.ppm().ends_with(&[[128; 3], [0; 3], [128; 3]].concat()));
     }
 
     #[test]

@@ -16,6 +16,7 @@ use super::case::{Case, Said};
 
 pub const SAMPLE_TEXT: &[u8] = include_bytes!("../../../../samples/font.hex");
 pub const SAMPLE_DRAWING: &[u8] = include_bytes!("../../../../samples/font.txt");
+pub const SAMPLE_SHADOW: &[u8] = include_bytes!("../../../../samples/shadow.txt");
 pub const SAMPLE_GLYPHS: &[u8] = include_bytes!("../../../../samples/glyphs.txt");
 pub const SAMPLE_MENU: &[u8] = include_bytes!("../../../../samples/menu.txt");
 const END_RECORD: &[u8] = b":00000001FF\n";

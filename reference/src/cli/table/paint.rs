@@ -1,6 +1,6 @@
 //! `paint`: the screen's language, every setting, what is refused, and where the picture goes.
 
-use super::{END_RECORD, SAMPLE_TEXT};
+use super::{END_RECORD, SAMPLE_SHADOW, SAMPLE_TEXT};
 use crate::cli::case::{case, Case, Line, Said};
 use crate::cli::expect::{Paint, To};
 use crate::cli::screen::COLOURS;
@@ -315,6 +315,65 @@ fn reaches() -> Vec<Case> {
     cases
 }
 
+/// Mode 1: where shadows fall, and how wide a picture is for them. In the sample font the block, cell 10, lights its
+/// whole cell, the sound waves, 55, and the sun, 60, some of their last column, and letters nothing of it.
+fn shadows() -> Vec<Case> {
+    let painted = |name: &str, text: &str, words: &str, change: &dyn Fn(&mut Paint)| {
+        let mut paint = Paint { words: format!("--mode 1 {words}"), ..Paint::new(text.as_bytes(), SAMPLE_TEXT) };
+        paint.settings.mode = 1;
+        change(&mut paint);
+        paint.case(&format!("shadow: {name} {words}"))
+    };
+    let plain = |name: &str, text: &str| painted(name, text, "", &|_| {});
+    let row = |size: u32, words: &str| format!("return {size} 0\n{words}");
+    let sizes: String = (1..5).map(|size| row(size, "character 55 yellow\n")).collect();
+    let stacked = "10\n0x0AE\n".to_string() + &row(1, "character 10 red\ncharacter 61 red\n");
+    let narrow = "character 12 white\ncharacter 13 white\n".to_string() + &row(1, "character 10 white\n");
+    let mut cases = vec![
+        plain("letters", "character 11 white\ncharacter 12 white\n"),
+        plain("every size", &sizes),
+        plain("into a space", "character 55 white\nspace red\ncharacter 7 white\n"),
+        plain("into a letter", "character 60 white\ncharacter 10 yellow\ncharacter 11 white\n"),
+        plain("past a return", &("character 60 white\n".to_string() + &row(2, "character 60 white\n"))),
+        plain("past an end", "character 55 white\nend\n"),
+        plain("past word 63", &"character 55 white\n".repeat(64)),
+        plain("past a space", "character 55 white\nspace white\n"),
+        plain("spaces alone", "space white\nspace red\n"),
+        plain("black letters", "character 10 black\ncharacter 60 black\n"),
+        plain("none below", &stacked),
+        plain("beside a shorter row", &narrow),
+        plain("in the widest row of several", &(narrow.clone() + &row(2, "character 10 white\n") + &row(1, "14\n"))),
+        plain("the first row is empty", &row(4, "character 60 cyan\n")),
+    ];
+    for width in [12, 13, 24, 25, 26, 27, 40] {
+        let text = row(2, "character 60 white\n");
+        cases.push(painted("cut", &text, &format!("--width {width}"), &|paint| paint.width = Some(width)));
+    }
+    // 20 cells of size 4 are 960 dots.
+    let wide = row(4, &"character 10 white\n".repeat(20));
+    for h in [14, 15, 16, 17] {
+        cases.push(painted("at the last dot", &wide, &format!("--h {h}"), &|paint| paint.settings.h = h));
+    }
+    let off = |paint: &mut Paint| paint.settings.on = false;
+    cases.push(painted("off", "character 60 white\n", "--off", &off));
+    for frame in [11, 12] {
+        let words = format!("--frame {frame}");
+        let text = "character 60 white blink\ncharacter 55 white blink\ncharacter 60 white\ncharacter 55 red blink\n";
+        cases.push(painted("blinking", text, &words, &|paint| paint.frame = frame));
+        cases.push(painted("of the sample", sample_shadow(), &words, &|paint| paint.frame = frame));
+    }
+    for (name, to, text) in
+        [("to a picture", To::New, false), ("to characters", To::New, true), ("to -", To::Dash, false)]
+    {
+        cases.push(painted(name, sample_shadow(), "", &|paint| (paint.to, paint.text) = (to, text)));
+    }
+    cases
+}
+
+fn sample_shadow() -> &'static str {
+    std::str::from_utf8(SAMPLE_SHADOW).expect("a sample is text")
+}
+
 /// Screens without a word.
 fn nothing() -> Vec<Case> {
     let with = |name: &str, text: &'static [u8], to: To| {
@@ -335,5 +394,5 @@ fn nothing() -> Vec<Case> {
 }
 
 pub fn all() -> Vec<Case> {
-    [language(), faults(), settings(), refused(), forms(), fonts(), reaches(), nothing()].concat()
+    [language(), faults(), settings(), refused(), forms(), fonts(), reaches(), shadows(), nothing()].concat()
 }
