@@ -21,7 +21,7 @@ use Rattle.display.specs.declared.View.{View}
 use Rattle.display.specs.declared.Pen.{Pen}
 use Rattle.display.specs.Cells.{Cell, character, space}
 use Rattle.display.specs.Picture.{Drawn, has, litAt, shadowOf, throws, shownDot, cellDot}
-use Rattle.display.specs.Steps.{onFirst, rowShown, inkOf, Cut}
+use Rattle.display.specs.Steps.{onFirst, blankRow, rowShown, inkOf, Cut}
 use Rattle.display.proofs.Shadow.{no-bits, shown-bit, shade-at, ground-plain}
 
 -- dot k after this cell was painted, `before` telling whether the cell before it throws its shadow on the dot
@@ -86,7 +86,7 @@ module _ (font : List ℕ) (v : View) (p : Pen) (thrown : Bool) (cut : Cut v p) 
         (shown-bit font v code blink l j) (sym (first-part (p .size) k (p .x .0) some (h .0))) (λ one. shade-at font v code blink l j one (row-within v p cut) (omega arith))))
 
   pub space-dot : (own : ℕ) → own ≤ mostColour
-      → stretched (p .x .0) (12 * p .size) (p .size) (record { bits = 0; above = 0; before = thrown }) (inkOf (v .mode) 0 own) k a
+      → stretched (p .x .0) (12 * p .size) (p .size) (blankRow thrown) (inkOf (v .mode) 0 own) k a
       ≡ drawnDot (fontDot font) v k (onFirst p thrown k) (record { left = p .x; top = p .y; size = p .size; background = own; shows = space }) a
   unfolding patched shadowOf shownDot
   space-dot own within =

@@ -39,6 +39,10 @@ painted dots v before cs k old = paintedIn dots v cs k old (either before (anyOf
 abbrev pub onFirst : Pen → Bool → ℕ → Bool
 onFirst p thrown k = both thrown (spanHas (p .x .0) (p .size) k)
 
+-- a row without dots
+abbrev pub blankRow : Bool → Row
+blankRow thrown = record { bits = 0; above = 0; before = thrown }
+
 -- the 12 bits that a character shows in a row: none while it is blinked out
 abbrev pub shownRow : List ℕ → View → ℕ → Bool → ℕ → ℕ
 shownRow font v code blink l = pick (steadyOr blink (v .lit)) (rowOf font code l) 0

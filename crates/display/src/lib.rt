@@ -12,7 +12,7 @@ ghost use Rattle.stretch.specs.Stretch.{stretched};
 ghost use Rattle.display.specs.Cells.{rightOf, rowPen, cellsFrom};
 ghost use Rattle.display.specs.Picture.{steadyOr, dotAt};
 ghost use Rattle.display.specs.Painting.{viewOf, screenOf, leftBy};
-ghost use Rattle.display.specs.Steps.{painted, aboveAt, rowShown, inkOf, endOf, mostSize, far, Usable, WordsAsk, RowAsks};
+ghost use Rattle.display.specs.Steps.{painted, blankRow, aboveAt, rowShown, inkOf, endOf, mostSize, far, Usable, WordsAsk, RowAsks};
 use judging::Painted;
 use judging::Settings;
 use stretch::Ink;
@@ -159,11 +159,7 @@ fn paint_row(words: &[u16], font: &[u16], view: View, start: Pen, out: &mut [u8]
                 pen = right(pen, pen.background);
             }
             Kind::Space { background } => {
-                let row = Row {
-                    bits: 0,
-                    above: 0,
-                    before: thrown,
-                };
+                let row = blank(thrown);
                 draw(pen, row, view.mode, 0, background, out);
                 thrown = false;
                 pen = right(pen, background);
@@ -221,11 +217,18 @@ fn row_shown(font: &[u16], view: View, code: usize, blink: bool, l: usize, throw
             before: thrown,
         }
     } else {
-        Row {
-            bits: 0,
-            above: 0,
-            before: thrown,
-        }
+        blank(thrown)
+    }
+}
+
+// A row without dots, of a space or of a character that is blinked out: it throws no shadow, but one falls on it.
+fn blank(thrown: bool) -> Row
+    ensures { λ r. ⌜ r ≡ blankRow thrown ⌝ }
+{
+    Row {
+        bits: 0,
+        above: 0,
+        before: thrown,
     }
 }
 

@@ -96,6 +96,9 @@ loop-again c =
 enum-known-kind-2 : tie.Need-enum-known-kind-2 Inv-loop μ-loop
 enum-known-kind-2 c = search needs
 
+blank-requires : tie.Need-blank-requires Inv-loop μ-loop
+blank-requires c κs = search needs
+
 draw-requires-2 : tie.Need-draw-requires-2 Inv-loop μ-loop
 draw-requires-2 c κs =
     let l = (let h : tie.At-loop Inv-loop μ-loop = search in h .loop) in
@@ -115,9 +118,10 @@ loop-again-2 c =
     let l = (let h : tie.At-loop Inv-loop μ-loop = search in h .loop) in
     let told = (let k : tie.After-kind2 Inv-loop μ-loop = search in k .kind2 .given .1) in
     let is = (let d : tie.After-decode Inv-loop μ-loop = search in d .decode .ensures) in
+    let empty = (let p : tie.After-blank Inv-loop μ-loop = search in p .blank .ensures) in
     let drawn = (let p : tie.After-draw2 Inv-loop μ-loop = search in p .draw2 .ensures) in
     let moved = (let p : tie.After-right2 Inv-loop μ-loop = search in p .right2 .ensures) in
-    goes-space (a .words .now) (a .font .now) (a .view) (a .out .now) _ (a .start) (l .out) (l .pen) (l .thrown) (l .i) (l .inv) _ _ _ (omega arith) _ _ is told drawn refl moved
+    goes-space (a .words .now) (a .font .now) (a .view) (a .out .now) _ (a .start) (l .out) (l .pen) (l .thrown) (l .i) (l .inv) _ _ _ (omega arith) _ _ _ is told empty drawn refl moved
 
 enum-told : tie.Need-enum-told Inv-loop μ-loop
 enum-told c = search needs
@@ -201,6 +205,7 @@ paint-row-spec =
     loop-less
     loop-again
     enum-known-kind-2
+    blank-requires
     draw-requires-2
     right-requires-2
     loop-less-2

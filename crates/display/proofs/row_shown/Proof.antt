@@ -29,6 +29,9 @@ shared-slice-read-t12 c = omega arith
 row-above-requires : tie.Need-row-above-requires
 row-above-requires c κs = (omega arith, omega arith)
 
+blank-requires : tie.Need-blank-requires
+blank-requires c κs = search needs
+
 returns : tie.Need-returns
 returns c =
     let a = (let s : tie.Start = search in s .args) in
@@ -41,8 +44,9 @@ returns-2 : tie.Need-returns-2
 returns-2 c =
     let a = (let s : tie.Start = search in s .args) in
     let told = (let p : tie.After-shows = search in p .shows .ensures) in
+    let empty = (let p : tie.After-blank = search in p .blank .ensures) in
     let out : steadyOr (a .blink) (a .view .lit) ≡ false = sym told ∙ search in
-    simp out
+    simp out empty
 
 pub row-shown-spec : {M : Type 1} → statement M
-row-shown-spec = tie.close (tie.spec shows-requires mul-at add-at mul-t10 shared-slice-read-t12 row-above-requires returns returns-2)
+row-shown-spec = tie.close (tie.spec shows-requires mul-at add-at mul-t10 shared-slice-read-t12 row-above-requires blank-requires returns returns-2)
