@@ -210,14 +210,8 @@ paint-row-spec =
     right-requires-2
     loop-less-2
     loop-again-2
-    enum-told
-    end-row-requires
-    same-length
-    returns
-    enum-told-2
-    end-row-requires-2
-    same-length-2
-    returns-2
+    enum-told end-row-requires same-length returns
+    enum-told-2 end-row-requires-2 same-length-2 returns-2
     end-row-requires-3
     same-length-3
     returns-3)
