@@ -11,7 +11,7 @@ use lib.ListN.{length, set}
 use Rattle.laws.specs.Lines.{overlay}
 use Rattle.laws.specs.Pick.{pick}
 use Rattle.laws.specs.Placing.{spanHas, patched}
-use Rattle.laws.proofs.Overlay.{overlay-leaves, overlay-same, overlay-twice, overlay-store, overlay-ext}
+use Rattle.laws.proofs.Overlay.{overlay-length, overlay-leaves, overlay-same, overlay-twice, overlay-store, overlay-ext}
 use Rattle.laws.proofs.Patched.{patched-none, patched-here, patched-other, patched-more, patched-cut}
 use Rattle.laws.proofs.Placing.{part-at}
 use Rattle.font.specs.Font.{bitSet}
@@ -98,3 +98,12 @@ one-tone from n size byte row out =
 pub column-is : (row : Row) (ink : Ink) (j byte : ℕ) (set shaded : Bool) → byte ≡ toneOf set shaded ink → set ≡ bitSet (row .bits) j → shaded ≡ shadeSet (row .above) (row .before) j
     → byte ≡ columnByte row ink j
 column-is row ink j byte set shaded tone bit shade = tone ∙ ap (λ (t : Bool). toneOf t shaded ink) bit ∙ ap (λ (t : Bool). toneOf (bitSet (row .bits) j) t ink) shade
+
+-- a dot more: dot i of the cell, in column j, with its column's byte
+pub dot-more : (from size i j byte : ℕ) (row : Row) (ink : Ink) (out₀ out : List ℕ) → i / size ≡ j → byte ≡ columnByte row ink j → out ≡ overlay (stretched from i size row ink) out₀
+    → from + i < length out₀ → (set out (from + i) byte ≡ overlay (stretched from (i + 1) size row ink) out₀) × (length (set out (from + i) byte) ≡ length out₀)
+dot-more from size i j byte row ink out₀ out at is before lt =
+    let column : columnByte row ink j ≡ columnByte row ink (i / size) = ap (columnByte row ink) (sym at) in
+    let more : set out (from + i) byte ≡ overlay (stretched from (i + 1) size row ink) out₀ =
+    ap (λ (b : ℕ). set out (from + i) b) (is ∙ column) ∙ patch-more from i (λ d. columnByte row ink (d / size)) out₀ out before lt in
+    (more, ap length more ∙ overlay-length (stretched from (i + 1) size row ink) 0 out₀)

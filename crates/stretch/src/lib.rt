@@ -82,7 +82,12 @@ fn by_columns(out: &mut [u8], from: usize, size: usize, row: Row, ink: Ink)
     let mut shaded = row.before;
     let mut j = 0;
     while j < font::CELL_COLUMNS {
-        column(out, from + j * size, size, tone(is_set(row.bits, j), shaded, ink));
+        column(
+            out,
+            from + j * size,
+            size,
+            tone(is_set(row.bits, j), shaded, ink),
+        );
         shaded = is_set(row.above, j);
         j += 1;
     }
@@ -108,16 +113,26 @@ fn column(out: &mut [u8], from: usize, size: usize, byte: u8)
     out[from + 3] = byte;
 }
 
-// The first n dots of a cell, one after the other.
+// The first n dots of a cell, one after the other: dot i is dot c of column j.
 fn dot_by_dot(out: &mut [u8], from: usize, size: usize, n: usize, row: Row, ink: Ink)
     requires { ⌜ (from + n ≤ length (now out)) × (n ≤ cellColumns * size) ⌝ }
     ensures { λ _. ⌜ now (out .exit) ≡ overlay (stretched from n size row ink) (now (out .entry)) ⌝ }
 {
     let mut i = 0;
+    let mut j = 0;
+    let mut c = 0;
     while i < n {
-        let j = i / size;
-        out[from + i] = tone(is_set(row.bits, j), is_shaded(row.above, row.before, j), ink);
+        out[from + i] = tone(
+            is_set(row.bits, j),
+            is_shaded(row.above, row.before, j),
+            ink,
+        );
         i += 1;
+        c += 1;
+        if c == size {
+            j += 1;
+            c = 0;
+        }
     }
 }
 
@@ -137,11 +152,7 @@ fn is_shaded(above: u16, before: bool, j: usize) -> bool
     requires { ⌜ j + 1 ≤ cellColumns ⌝ }
     ensures { λ r. ⌜ r ≡ shadeSet above before j ⌝ }
 {
-    if j == 0 {
-        before
-    } else {
-        is_set(above, j - 1)
-    }
+    if j == 0 { before } else { is_set(above, j - 1) }
 }
 
 // Whether a row's bit in column j is set, bit 11 leftmost.

@@ -22,8 +22,7 @@ abbrev μ-loop : tie.MeasureT-loop
 loop-holds : tie.Need-loop-holds Inv-loop μ-loop
 loop-holds c =
     let a = (let s : tie.Start Inv-loop μ-loop = search in s .args) in
-    let none : 0 ≡ 0 * a .size = omega arith in
-    (
+    let none : 0 ≡ 0 * a .size = omega arith in (
       omega arith,
       (
         refl,
