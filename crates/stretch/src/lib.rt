@@ -74,21 +74,20 @@ pub fn strip(out: &mut [u8], x: Dots, size: u8, byte: u8)
     }
 }
 
-// A cell that the line has whole: column by column, with no test of the line's end and no division. Each column hands the next the shadow that the row above it throws.
+// A cell that the line has whole: column by column, with no test of the line's end and no division. The first column is by itself, so that no value goes from one column to the next.
 fn by_columns(out: &mut [u8], from: usize, size: usize, row: Row, ink: Ink)
     requires { ⌜ ((1 ≤ size) × (size ≤ 4)) × (from + cellColumns * size ≤ length (now out)) ⌝ }
     ensures { λ _. ⌜ now (out .exit) ≡ overlay (stretched from (cellColumns * size) size row ink) (now (out .entry)) ⌝ }
 {
-    let mut shaded = row.before;
-    let mut j = 0;
+    column(out, from, size, tone(is_set(row.bits, 0), row.before, ink));
+    let mut j = 1;
     while j < font::CELL_COLUMNS {
         column(
             out,
             from + j * size,
             size,
-            tone(is_set(row.bits, j), shaded, ink),
+            tone(is_set(row.bits, j), is_set(row.above, j - 1), ink),
         );
-        shaded = is_set(row.above, j);
         j += 1;
     }
 }
