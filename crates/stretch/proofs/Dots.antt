@@ -106,10 +106,11 @@ patch-over from m n shows out next le laid =
     ∙ overlay-same _ _ out (λ k old. patched-over from m n k old shows le)
 
 -- the shadow on a column after the first is thrown by the one before it
-pub shade-later : (above : ℕ) (before : Bool) (j : ℕ) → 1 ≤ j → bitSet above (j - 1) ≡ shadeSet above before j
-shade-later above before j some =
+pub shade-later : (above : ℕ) (before : Bool) (j left : ℕ) (shaded : Bool) → shaded ≡ bitSet above left → left + 1 ≡ j → shaded ≡ shadeSet above before j
+shade-later above before j left shaded bit next =
     let other : eqb j 0 ≡ false = omega (arith, ne-eqb) in
-    rw other
+    let back : left ≡ j - 1 = omega arith in
+    simp other (bit ∙ ap (bitSet above) back)
 
 -- a row whose bytes are all one, be its dots set, in the shadow or neither
 one-byte : (set shaded : Bool) (byte : ℕ) → toneOf set shaded (record { on = byte; shade = byte; off = byte }) ≡ byte
@@ -126,9 +127,9 @@ one-tone from n size byte row out last laid =
     (one-byte (bitSet (row .bits) ((k - from) / size)) (shadeSet (row .above) (row .before) ((k - from) / size)) byte))
 
 -- a column's byte, by its bit and by whether the shadow falls on it
-pub column-is : (row : Row) (ink : Ink) (j byte : ℕ) (set shaded : Bool) → byte ≡ toneOf set shaded ink → set ≡ bitSet (row .bits) j → shaded ≡ shadeSet (row .above) (row .before) j
+pub column-is : (row : Row) (ink : Ink) (j byte : ℕ) (set shaded : Bool) → set ≡ bitSet (row .bits) j → shaded ≡ shadeSet (row .above) (row .before) j → byte ≡ toneOf set shaded ink
     → byte ≡ columnByte row ink j
-column-is row ink j byte set shaded tone bit shade = tone ∙ ap (λ (t : Bool). toneOf t shaded ink) bit ∙ ap (λ (t : Bool). toneOf (bitSet (row .bits) j) t ink) shade
+column-is row ink j byte set shaded bit shade tone = tone ∙ ap (λ (t : Bool). toneOf t shaded ink) bit ∙ ap (λ (t : Bool). toneOf (bitSet (row .bits) j) t ink) shade
 
 -- a dot more: dot i of the cell, in column j, with its column's byte
 pub dot-more : (from size i j byte : ℕ) (row : Row) (ink : Ink) (out₀ out : List ℕ) → i / size ≡ j → byte ≡ columnByte row ink j → out ≡ overlay (stretched from i size row ink) out₀

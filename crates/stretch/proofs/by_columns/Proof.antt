@@ -34,7 +34,7 @@ loop-holds c =
     let bit = (let p : tie.After-is-set Inv-loop μ-loop = search in p .is-set .ensures) in
     let byte = (let p : tie.After-tone Inv-loop μ-loop = search in p .tone .ensures) in
     let laid = (let p : tie.After-column Inv-loop μ-loop = search in p .column .ensures) in
-    let is = column-is (a .row) (a .ink) 0 _ _ _ byte bit refl in
+    let is = column-is (a .row) (a .ink) 0 _ _ _ bit refl byte in
     let first = column-first (a .from) (a .size) (columnByte (a .row) (a .ink)) _ (a .out .now) _ is laid in
     let shows : ℕ → ℕ = λ d. columnByte (a .row) (a .ink) (d / a .size) in
     let again = patch-over (a .from) (1 * a .size) (1 * a .size) shows (a .out .now) _ (omega arith) first in
@@ -90,7 +90,8 @@ loop-again c =
     let shade = (let p : tie.After-is-set3 Inv-loop μ-loop = search in p .is-set3 .ensures) in
     let byte = (let p : tie.After-tone2 Inv-loop μ-loop = search in p .tone2 .ensures) in
     let laid = (let p : tie.After-column2 Inv-loop μ-loop = search in p .column2 .ensures) in
-    let is = column-is (a .row) (a .ink) (l .j) _ _ _ byte bit (shade ∙ shade-later (a .row .above) (a .row .before) (l .j) (omega arith)) in
+    let shaded = shade-later (a .row .above) (a .row .before) (l .j) _ _ shade (omega arith) in
+    let is = column-is (a .row) (a .ink) (l .j) _ _ _ bit shaded byte in
     let more = column-more (a .from) (a .size) (columnByte (a .row) (a .ink)) (l .j) _ _ _ _ (l .inv .1 .0) is laid in
     ((omega arith, omega arith), (more, ap length more ∙ overlay-length (stretched (a .from) ((l .j + 1) * a .size) (a .size) (a .row) (a .ink)) 0 _))
 
@@ -104,7 +105,7 @@ returns c =
     let bit = (let p : tie.After-is-set Inv-loop μ-loop = search in p .is-set .ensures) in
     let byte = (let p : tie.After-tone Inv-loop μ-loop = search in p .tone .ensures) in
     let laid = (let p : tie.After-column Inv-loop μ-loop = search in p .column .ensures) in
-    let is = column-is (a .row) (a .ink) 0 _ _ _ byte bit refl in
+    let is = column-is (a .row) (a .ink) 0 _ _ _ bit refl byte in
     let first = column-first (a .from) (a .size) (columnByte (a .row) (a .ink)) _ (a .out .now) _ is laid in
     let shows : ℕ → ℕ = λ d. columnByte (a .row) (a .ink) (d / a .size) in
     let some : 1 ≤ l .j = omega arith in

@@ -70,7 +70,7 @@ loop-again c =
     let bit = (let p : tie.After-is-set Inv-loop μ-loop = search in p .is-set .ensures) in
     let shade = (let p : tie.After-is-shaded Inv-loop μ-loop = search in p .is-shaded .ensures) in
     let byte = (let p : tie.After-tone Inv-loop μ-loop = search in p .tone .ensures) in
-    let is = column-is (a .row) (a .ink) (l .j) _ _ _ byte bit shade in
+    let is = column-is (a .row) (a .ink) (l .j) _ _ _ bit shade byte in
     ((omega arith, (omega arith, omega arith)), dot-more (a .from) (a .size) (l .i) (l .j) _ (a .row) (a .ink) (a .out .now) (l .out) at is (l .inv .1 .0) (omega arith))
 
 loop-less-2 : tie.Need-loop-less-2 Inv-loop μ-loop
@@ -84,7 +84,7 @@ loop-again-2 c =
     let bit = (let p : tie.After-is-set Inv-loop μ-loop = search in p .is-set .ensures) in
     let shade = (let p : tie.After-is-shaded Inv-loop μ-loop = search in p .is-shaded .ensures) in
     let byte = (let p : tie.After-tone Inv-loop μ-loop = search in p .tone .ensures) in
-    let is = column-is (a .row) (a .ink) (l .j) _ _ _ byte bit shade in
+    let is = column-is (a .row) (a .ink) (l .j) _ _ _ bit shade byte in
     ((omega arith, (omega arith, omega arith)), dot-more (a .from) (a .size) (l .i) (l .j) _ (a .row) (a .ink) (a .out .now) (l .out) at is (l .inv .1 .0) (omega arith))
 
 same-length : tie.Need-same-length Inv-loop μ-loop
