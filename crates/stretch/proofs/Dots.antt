@@ -3,6 +3,7 @@
 use mathlib.Core.Path.{_≡_, refl, sym, ap, _∙_}
 use mathlib.Core.List.{List}
 use mathlib.Core.Bool.{Bool, true, false}
+use mathlib.Core.Logic.{⊎-elim}
 use Prim.Native.Nat.{ℕ, _+_, _-_, _*_, _/_, _<_, _≤_}
 use native.Mathlib.Omega.{arith}
 use borrow.Author.Tests.{ne-eqb}
@@ -11,9 +12,10 @@ use lib.ListN.{length, set}
 use Rattle.laws.specs.Lines.{overlay}
 use Rattle.laws.specs.Pick.{pick}
 use Rattle.laws.specs.Placing.{spanHas, patched}
-use Rattle.laws.proofs.Overlay.{overlay-leaves, overlay-same, overlay-twice, overlay-store, overlay-ext}
+use Rattle.laws.proofs.Overlay.{overlay-length, overlay-leaves, overlay-same, overlay-twice, overlay-store, overlay-ext}
 use Rattle.laws.proofs.Patched.{patched-none, patched-here, patched-other, patched-more, patched-cut}
-use Rattle.laws.proofs.Placing.{part-at}
+use Rattle.laws.proofs.Placing.{part-at, span-in, span-before, span-after}
+use Rattle.laws.proofs.Scan.{split}
 use Rattle.font.specs.Font.{bitSet}
 use Rattle.stretch.specs.declared.Row.{Row}
 use Rattle.stretch.specs.declared.Ink.{Ink}
@@ -75,12 +77,40 @@ column-more from size byteAt j byte out₀ out next before is laid =
     (λ d le lt. is ∙ ap byteAt (sym (part-at j size d le lt))))
     ∙ ap (λ (m : ℕ). overlay (patched from m shows) out₀) more
 
+-- the first column
+pub column-first : (from size : ℕ) (byteAt : ℕ → ℕ) (byte : ℕ) (out next : List ℕ) → byte ≡ byteAt 0 → next ≡ overlay (patched from size (λ d. byte)) out
+    → next ≡ overlay (patched from (1 * size) (λ d. byteAt (d / size))) out
+column-first from size byteAt byte out next is laid =
+    let none : 0 ≡ 0 * size = omega arith in
+    let here : from ≡ from + 0 * size = omega arith in
+    column-more from size byteAt 0 byte out out next
+    (patch-none from (λ d. byteAt (d / size)) out ∙ ap (λ (n : ℕ). overlay (patched from n (λ d. byteAt (d / size))) out) none) is
+    (laid ∙ ap (λ (x : ℕ). overlay (patched x size (λ d. byte)) out) here)
+
+-- dots of which the first are painted already, by the same rule
+patched-over : (from m n k old : ℕ) (shows : ℕ → ℕ) → m ≤ n → patched from n shows k (patched from m shows k old) ≡ patched from n shows k old
+unfolding patched
+patched-over from m n k old shows le =
+    ⊎-elim
+    (λ (at : from ≤ k). ⊎-elim
+    (λ (after : from + n ≤ k). simp (span-after from m k (omega arith)))
+    (λ (within : k < from + n). simp (span-in from n k at within))
+    (split (from + n) k))
+    (λ (left : k < from). simp (span-before from m k left))
+    (split from k)
+
+pub patch-over : (from m n : ℕ) (shows : ℕ → ℕ) (out next : List ℕ) → m ≤ n → next ≡ overlay (patched from m shows) out → overlay (patched from n shows) next ≡ overlay (patched from n shows) out
+patch-over from m n shows out next le laid =
+    ap (λ (t : List ℕ). overlay (patched from n shows) t) laid
+    ∙ overlay-twice (patched from m shows) (patched from n shows) 0 out
+    ∙ overlay-same _ _ out (λ k old. patched-over from m n k old shows le)
+
 -- the shadow on a column after the first is thrown by the one before it
-pub shade-next : (above : ℕ) (before : Bool) (j : ℕ) → shadeSet above before (j + 1) ≡ bitSet above j
-shade-next above before j =
-    let some : eqb (j + 1) 0 ≡ false = omega (arith, ne-eqb) in
-    let back : j + 1 - 1 ≡ j = omega arith in
-    rw (some, back)
+pub shade-later : (above : ℕ) (before : Bool) (j left : ℕ) (shaded : Bool) → shaded ≡ bitSet above left → left + 1 ≡ j → shaded ≡ shadeSet above before j
+shade-later above before j left shaded bit next =
+    let other : eqb j 0 ≡ false = omega (arith, ne-eqb) in
+    let back : left ≡ j - 1 = omega arith in
+    simp other (bit ∙ ap (bitSet above) back)
 
 -- a row whose bytes are all one, be its dots set, in the shadow or neither
 one-byte : (set shaded : Bool) (byte : ℕ) → toneOf set shaded (record { on = byte; shade = byte; off = byte }) ≡ byte
@@ -88,13 +118,24 @@ one-byte true shaded byte = refl
 one-byte false true byte = refl
 one-byte false false byte = refl
 
-pub one-tone : (from n size byte : ℕ) (row : Row) (out : List ℕ) → overlay (stretched from n size row (record { on = byte; shade = byte; off = byte })) out ≡ overlay (patched from n (λ d. byte)) out
+pub one-tone : (from n size byte : ℕ) (row : Row) (out last : List ℕ) → last ≡ overlay (stretched from n size row (record { on = byte; shade = byte; off = byte })) out
+    → last ≡ overlay (patched from n (λ d. byte)) out
 unfolding patched
-one-tone from n size byte row out =
-    overlay-same _ _ out (λ k old. ap (λ (b : ℕ). pick (spanHas from n k) b old)
+one-tone from n size byte row out last laid =
+    laid
+    ∙ overlay-same _ _ out (λ k old. ap (λ (b : ℕ). pick (spanHas from n k) b old)
     (one-byte (bitSet (row .bits) ((k - from) / size)) (shadeSet (row .above) (row .before) ((k - from) / size)) byte))
 
 -- a column's byte, by its bit and by whether the shadow falls on it
-pub column-is : (row : Row) (ink : Ink) (j byte : ℕ) (set shaded : Bool) → byte ≡ toneOf set shaded ink → set ≡ bitSet (row .bits) j → shaded ≡ shadeSet (row .above) (row .before) j
+pub column-is : (row : Row) (ink : Ink) (j byte : ℕ) (set shaded : Bool) → set ≡ bitSet (row .bits) j → shaded ≡ shadeSet (row .above) (row .before) j → byte ≡ toneOf set shaded ink
     → byte ≡ columnByte row ink j
-column-is row ink j byte set shaded tone bit shade = tone ∙ ap (λ (t : Bool). toneOf t shaded ink) bit ∙ ap (λ (t : Bool). toneOf (bitSet (row .bits) j) t ink) shade
+column-is row ink j byte set shaded bit shade tone = tone ∙ ap (λ (t : Bool). toneOf t shaded ink) bit ∙ ap (λ (t : Bool). toneOf (bitSet (row .bits) j) t ink) shade
+
+-- a dot more: dot i of the cell, in column j, with its column's byte
+pub dot-more : (from size i j byte : ℕ) (row : Row) (ink : Ink) (out₀ out : List ℕ) → i / size ≡ j → byte ≡ columnByte row ink j → out ≡ overlay (stretched from i size row ink) out₀
+    → from + i < length out₀ → (set out (from + i) byte ≡ overlay (stretched from (i + 1) size row ink) out₀) × (length (set out (from + i) byte) ≡ length out₀)
+dot-more from size i j byte row ink out₀ out at is before lt =
+    let column : columnByte row ink j ≡ columnByte row ink (i / size) = ap (columnByte row ink) (sym at) in
+    let more : set out (from + i) byte ≡ overlay (stretched from (i + 1) size row ink) out₀ =
+    ap (λ (b : ℕ). set out (from + i) b) (is ∙ column) ∙ patch-more from i (λ d. columnByte row ink (d / size)) out₀ out before lt in
+    (more, ap length more ∙ overlay-length (stretched from (i + 1) size row ink) 0 out₀)

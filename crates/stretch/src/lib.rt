@@ -74,16 +74,20 @@ pub fn strip(out: &mut [u8], x: Dots, size: u8, byte: u8)
     }
 }
 
-// A cell that the line has whole: column by column, with no test of the line's end and no division. Each column hands the next the shadow that the row above it throws.
+// A cell that the line has whole: column by column, with no test of the line's end and no division. The first column is by itself, so that no value goes from one column to the next.
 fn by_columns(out: &mut [u8], from: usize, size: usize, row: Row, ink: Ink)
     requires { ⌜ ((1 ≤ size) × (size ≤ 4)) × (from + cellColumns * size ≤ length (now out)) ⌝ }
     ensures { λ _. ⌜ now (out .exit) ≡ overlay (stretched from (cellColumns * size) size row ink) (now (out .entry)) ⌝ }
 {
-    let mut shaded = row.before;
-    let mut j = 0;
+    column(out, from, size, tone(is_set(row.bits, 0), row.before, ink));
+    let mut j = 1;
     while j < font::CELL_COLUMNS {
-        column(out, from + j * size, size, tone(is_set(row.bits, j), shaded, ink));
-        shaded = is_set(row.above, j);
+        column(
+            out,
+            from + j * size,
+            size,
+            tone(is_set(row.bits, j), is_set(row.above, j - 1), ink),
+        );
         j += 1;
     }
 }
@@ -108,16 +112,26 @@ fn column(out: &mut [u8], from: usize, size: usize, byte: u8)
     out[from + 3] = byte;
 }
 
-// The first n dots of a cell, one after the other.
+// The first n dots of a cell, one after the other: dot i is dot c of column j.
 fn dot_by_dot(out: &mut [u8], from: usize, size: usize, n: usize, row: Row, ink: Ink)
     requires { ⌜ (from + n ≤ length (now out)) × (n ≤ cellColumns * size) ⌝ }
     ensures { λ _. ⌜ now (out .exit) ≡ overlay (stretched from n size row ink) (now (out .entry)) ⌝ }
 {
     let mut i = 0;
+    let mut j = 0;
+    let mut c = 0;
     while i < n {
-        let j = i / size;
-        out[from + i] = tone(is_set(row.bits, j), is_shaded(row.above, row.before, j), ink);
+        out[from + i] = tone(
+            is_set(row.bits, j),
+            is_shaded(row.above, row.before, j),
+            ink,
+        );
         i += 1;
+        c += 1;
+        if c == size {
+            j += 1;
+            c = 0;
+        }
     }
 }
 
@@ -137,11 +151,7 @@ fn is_shaded(above: u16, before: bool, j: usize) -> bool
     requires { ⌜ j + 1 ≤ cellColumns ⌝ }
     ensures { λ r. ⌜ r ≡ shadeSet above before j ⌝ }
 {
-    if j == 0 {
-        before
-    } else {
-        is_set(above, j - 1)
-    }
+    if j == 0 { before } else { is_set(above, j - 1) }
 }
 
 // Whether a row's bit in column j is set, bit 11 leftmost.

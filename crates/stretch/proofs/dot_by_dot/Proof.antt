@@ -1,44 +1,42 @@
--- `stretch::dot_by_dot`. The loop's invariant: the first i dots of the cell are painted.
+-- `stretch::dot_by_dot`. The loop's invariant: the first i dots of the cell are painted, and the next is dot c of column j.
 -- Assumes nothing.
-use Prim.Native.Nat.{ℕ, _+_, _-_, _/_, _≤_}
+use Prim.Native.Nat.{ℕ, _+_, _-_, _*_, _/_, _<_, _≤_}
 use mathlib.Core.Path.{_≡_, refl, ap, _∙_}
 use native.Mathlib.Omega.{arith}
 use borrow.Author.Needs.{needs}
-use lib.ListN.{length, set}
+use lib.ListN.{length}
 use Rattle.laws.specs.Lines.{overlay}
-use Rattle.laws.proofs.Overlay.{overlay-length}
-use Rattle.laws.proofs.Placing.{part-below}
+use Rattle.laws.proofs.Placing.{part-at, part-below}
 use Rattle.font.specs.Font.{cellColumns}
 use Rattle.stretch.specs.Stretch.{columnByte, stretched}
-use Rattle.stretch.proofs.Dots.{patch-none, patch-more, column-is}
+use Rattle.stretch.proofs.Dots.{patch-none, column-is, dot-more}
 use Rattle.stretch.proofs.dot_by_dot.Statement.{statement}
 use Rattle.stretch.proofs.dot_by_dot.Tie as tie
 
 abbrev Inv-loop : tie.InvT-loop
-Inv-loop out₀ from size n row ink i₀ out i = (i ≤ n) × ((out ≡ overlay (stretched from i size row ink) out₀) × (length out ≡ length out₀))
+Inv-loop out₀ from size n row ink i₀ j₀ c₀ out i j c = ((i ≤ n) × ((j * size + c ≡ i) × (c ≤ size - 1))) × ((out ≡ overlay (stretched from i size row ink) out₀) × (length out ≡ length out₀))
 
 abbrev μ-loop : tie.MeasureT-loop
-μ-loop out₀ from size n row ink i₀ out i = n - i
+μ-loop out₀ from size n row ink i₀ j₀ c₀ out i j c = n - i
+
+-- where a dot of the cell is: in the column that divides its place, which is one of the cell's
+module _ (n size i j c : ℕ) (lt : i < n) (fits : n ≤ cellColumns * size) (at : j * size + c ≡ i) (within : c ≤ size - 1) where
+  column-at : i / size ≡ j
+  column-at = part-at j size i (omega arith) (omega arith)
+
+  column-below : j + 1 ≤ cellColumns
+  column-below = omega (arith, column-at, part-below cellColumns size i (omega arith))
 
 loop-holds : tie.Need-loop-holds Inv-loop μ-loop
 loop-holds c =
     let a = (let s : tie.Start Inv-loop μ-loop = search in s .args) in
-    (omega arith, (patch-none (a .from) (λ d. columnByte (a .row) (a .ink) (d / a .size)) (a .out .now), refl))
-
-div-j : tie.Need-div-j Inv-loop μ-loop
-div-j c = omega arith
+    ((omega arith, (omega arith, omega arith)), (patch-none (a .from) (λ d. columnByte (a .row) (a .ink) (d / a .size)) (a .out .now), refl))
 
 is-set-requires : tie.Need-is-set-requires Inv-loop μ-loop
-is-set-requires c κs =
-    let a = (let s : tie.Start Inv-loop μ-loop = search in s .args) in
-    let l = (let h : tie.At-loop Inv-loop μ-loop = search in h .loop) in
-    omega (arith, part-below cellColumns (a .size) (l .i) (omega arith))
+is-set-requires c κs = search column-below
 
 is-shaded-requires : tie.Need-is-shaded-requires Inv-loop μ-loop
-is-shaded-requires c κs =
-    let a = (let s : tie.Start Inv-loop μ-loop = search in s .args) in
-    let l = (let h : tie.At-loop Inv-loop μ-loop = search in h .loop) in
-    omega (arith, part-below cellColumns (a .size) (l .i) (omega arith))
+is-shaded-requires c κs = search column-below
 
 tone-requires : tie.Need-tone-requires Inv-loop μ-loop
 tone-requires c κs = search needs
@@ -52,6 +50,15 @@ slice-write-out c = omega arith
 add-i : tie.Need-add-i Inv-loop μ-loop
 add-i c = omega arith
 
+add-c : tie.Need-add-c Inv-loop μ-loop
+add-c c = omega arith
+
+add-j : tie.Need-add-j Inv-loop μ-loop
+add-j c =
+    let l = (let h : tie.At-loop Inv-loop μ-loop = search in h .loop) in
+    let one : l .j + 1 ≤ cellColumns = search column-below in
+    omega arith
+
 loop-less : tie.Need-loop-less Inv-loop μ-loop
 loop-less c = omega arith
 
@@ -59,13 +66,26 @@ loop-again : tie.Need-loop-again Inv-loop μ-loop
 loop-again c =
     let a = (let s : tie.Start Inv-loop μ-loop = search in s .args) in
     let l = (let h : tie.At-loop Inv-loop μ-loop = search in h .loop) in
-    let shows : ℕ → ℕ = λ d. columnByte (a .row) (a .ink) (d / a .size) in
+    let at : l .i / a .size ≡ l .j = search column-at in
     let bit = (let p : tie.After-is-set Inv-loop μ-loop = search in p .is-set .ensures) in
     let shade = (let p : tie.After-is-shaded Inv-loop μ-loop = search in p .is-shaded .ensures) in
     let byte = (let p : tie.After-tone Inv-loop μ-loop = search in p .tone .ensures) in
-    let is = column-is (a .row) (a .ink) (l .i / a .size) _ _ _ byte bit shade in
-    let more = ap (λ (b : ℕ). set (l .out) (a .from + l .i) b) is ∙ patch-more (a .from) (l .i) shows (a .out .now) (l .out) (l .inv .1 .0) (omega arith) in
-    (omega arith, (more, ap length more ∙ overlay-length (stretched (a .from) (l .i + 1) (a .size) (a .row) (a .ink)) 0 (a .out .now)))
+    let is = column-is (a .row) (a .ink) (l .j) _ _ _ bit shade byte in
+    ((omega arith, (omega arith, omega arith)), dot-more (a .from) (a .size) (l .i) (l .j) _ (a .row) (a .ink) (a .out .now) (l .out) at is (l .inv .1 .0) (omega arith))
+
+loop-less-2 : tie.Need-loop-less-2 Inv-loop μ-loop
+loop-less-2 c = omega arith
+
+loop-again-2 : tie.Need-loop-again-2 Inv-loop μ-loop
+loop-again-2 c =
+    let a = (let s : tie.Start Inv-loop μ-loop = search in s .args) in
+    let l = (let h : tie.At-loop Inv-loop μ-loop = search in h .loop) in
+    let at : l .i / a .size ≡ l .j = search column-at in
+    let bit = (let p : tie.After-is-set Inv-loop μ-loop = search in p .is-set .ensures) in
+    let shade = (let p : tie.After-is-shaded Inv-loop μ-loop = search in p .is-shaded .ensures) in
+    let byte = (let p : tie.After-tone Inv-loop μ-loop = search in p .tone .ensures) in
+    let is = column-is (a .row) (a .ink) (l .j) _ _ _ bit shade byte in
+    ((omega arith, (omega arith, omega arith)), dot-more (a .from) (a .size) (l .i) (l .j) _ (a .row) (a .ink) (a .out .now) (l .out) at is (l .inv .1 .0) (omega arith))
 
 same-length : tie.Need-same-length Inv-loop μ-loop
 same-length c =
@@ -86,14 +106,17 @@ dot-by-dot-spec =
     Inv-loop
     μ-loop
     loop-holds
-    div-j
     is-set-requires
     is-shaded-requires
     tone-requires
     add-out
     slice-write-out
     add-i
+    add-c
+    add-j
     loop-less
     loop-again
+    loop-less-2
+    loop-again-2
     same-length
     returns)

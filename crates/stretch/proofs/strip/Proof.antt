@@ -1,7 +1,6 @@
 -- `stretch::strip`: a cell's first column, all of one byte, of which those dots are painted that are on the line.
 -- Assumes nothing.
 use Prim.Native.Nat.{_-_}
-use mathlib.Core.Path.{_∙_}
 use native.Mathlib.Omega.{arith}
 use borrow.Author.Needs.{needs}
 use lib.ListN.{length}
@@ -30,7 +29,7 @@ returns-2 : tie.Need-returns-2
 returns-2 c =
     let a = (let s : tie.Start = search in s .args) in
     let laid = (let p : tie.After-dot-by-dot = search in p .dot-by-dot .ensures) in
-    patch-cut (a .x .0) (length (a .out .now) - a .x .0) (a .size) (λ d. a .byte) (a .out .now) _ (omega arith) (omega arith) (laid ∙ one-tone (a .x .0) _ (a .size) (a .byte) _ (a .out .now))
+    patch-cut (a .x .0) (length (a .out .now) - a .x .0) (a .size) (λ d. a .byte) (a .out .now) _ (omega arith) (omega arith) (one-tone (a .x .0) _ (a .size) (a .byte) _ (a .out .now) _ laid)
 
 same-length-2 : tie.Need-same-length-2
 same-length-2 c = search needs
@@ -39,7 +38,7 @@ returns-3 : tie.Need-returns-3
 returns-3 c =
     let a = (let s : tie.Start = search in s .args) in
     let laid = (let p : tie.After-dot-by-dot2 = search in p .dot-by-dot2 .ensures) in
-    laid ∙ one-tone (a .x .0) (a .size) (a .size) (a .byte) _ (a .out .now)
+    one-tone (a .x .0) (a .size) (a .size) (a .byte) _ (a .out .now) _ laid
 
 pub strip-spec : {M : Type 1} → statement M
 strip-spec =
