@@ -102,9 +102,9 @@ module _ (dots dots′ : Drawn) (v : View) (k : ℕ) where
   alike-shadow c c′ (character colour code blink) (character colour′ code′ blink′) same shows =
       rw (same .left, same .top, same .size)
       (both-where (spanHas 1 17 (rowIn v c′)) _ _ (λ rows. both-where (spanHas 1 12 (columnIn k c′)) _ _ (λ columns.
-        let l = span-has 1 17 (rowIn v c′) rows in
-        let j = span-has 1 12 (columnIn k c′) columns in
-        rw (shows .1 .0) (ap (both (steadyOr blink′ (v .lit))) (shows .1 .1 (rowIn v c′ - 1) (columnIn k c′ - 1) (omega arith) (omega arith))))))
+      let l = span-has 1 17 (rowIn v c′) rows in
+      let j = span-has 1 12 (columnIn k c′) columns in
+      rw (shows .1 .0) (ap (both (steadyOr blink′ (v .lit))) (shows .1 .1 (rowIn v c′ - 1) (columnIn k c′ - 1) (omega arith) (omega arith))))))
   alike-shadow c c′ (character colour code blink) space same shows = absurd shows
   alike-shadow c c′ space (character colour code blink) same shows = absurd shows
   alike-shadow c c′ space space same shows = refl

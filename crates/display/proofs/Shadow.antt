@@ -82,14 +82,14 @@ module _ (font : List ℕ) (v : View) (code : ℕ) (blink : Bool) (l j : ℕ) wh
   shade-at one row column =
       ⊎-elim
       (λ (some : 1 ≤ j).
-        let other : eqb j 0 ≡ false = ne-eqb j 0 (λ z. omega (arith, z)) in
-        ⊎-elim
-        (λ (later : 1 ≤ l). simp (span-in 1 17 l later (omega arith), span-in 1 12 j some (omega arith), other) (sym (ap (λ (n : ℕ). bitSet n (j - 1)) (above-row one later) ∙ shown-bit font v code blink (l - 1) (j - 1))))
-        (λ (first : l < 1). none-left (spanHas 1 17 l) (both (spanHas 1 12 j) (litAt (fontDot font) v code blink (l - 1) (j - 1))) (span-before 1 17 l first) ∙ sym (simp other (ap (λ (n : ℕ). bitSet n (j - 1)) (above-first (le-ltb 0 l (omega arith))) ∙ no-bits (j - 1))))
-        (split 1 l))
+      let other : eqb j 0 ≡ false = ne-eqb j 0 (λ z. omega (arith, z)) in
+      ⊎-elim
+      (λ (later : 1 ≤ l). simp (span-in 1 17 l later (omega arith), span-in 1 12 j some (omega arith), other) (sym (ap (λ (n : ℕ). bitSet n (j - 1)) (above-row one later) ∙ shown-bit font v code blink (l - 1) (j - 1))))
+      (λ (first : l < 1). none-left (spanHas 1 17 l) (both (spanHas 1 12 j) (litAt (fontDot font) v code blink (l - 1) (j - 1))) (span-before 1 17 l first) ∙ sym (simp other (ap (λ (n : ℕ). bitSet n (j - 1)) (above-first (le-ltb 0 l (omega arith))) ∙ no-bits (j - 1))))
+      (split 1 l))
       (λ (first : j < 1).
-        let zeroth : eqb j 0 ≡ true = eq-eqb j 0 (omega arith) in
-        none-right (spanHas 1 17 l) _ (none-left (spanHas 1 12 j) (litAt (fontDot font) v code blink (l - 1) (j - 1)) (span-before 1 12 j first)) ∙ sym (simp zeroth))
+      let zeroth : eqb j 0 ≡ true = eq-eqb j 0 (omega arith) in
+      none-right (spanHas 1 17 l) _ (none-left (spanHas 1 12 j) (litAt (fontDot font) v code blink (l - 1) (j - 1)) (span-before 1 12 j first)) ∙ sym (simp zeroth))
       (split 1 j)
 
   -- only in mode 1 is there one

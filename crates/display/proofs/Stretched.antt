@@ -78,12 +78,12 @@ module _ (font : List ℕ) (v : View) (p : Pen) (thrown : Bool) (cut : Cut v p) 
   character-dot colour code blink within =
       rw (cell-in-row 12 18 (v .line .0) k (p .x .0) (p .y .0) (p .size) (cut .from) (cut .to))
       (pick-where (spanHas (p .x .0) (12 * p .size) k) _ _ a (λ e.
-        let h = span-has (p .x .0) (12 * p .size) k e in
-        let l : ℕ = (v .line .0 - p .y .0) / p .size in
-        let j : ℕ = (k - p .x .0) / p .size in
-        let column : j < 12 = share-below 12 (p .size) k (p .x .0) (h .0) (h .1) in
-        column-byte v _ _ (inColour colour) (p .background) j thrown (spanHas (p .x .0) (p .size) k) (litAt (fontDot font) v code blink l j) _ within
-        (shown-bit font v code blink l j) (sym (first-part (p .size) k (p .x .0) some (h .0))) (λ one. shade-at font v code blink l j one (row-within v p cut) (omega arith))))
+      let h = span-has (p .x .0) (12 * p .size) k e in
+      let l : ℕ = (v .line .0 - p .y .0) / p .size in
+      let j : ℕ = (k - p .x .0) / p .size in
+      let column : j < 12 = share-below 12 (p .size) k (p .x .0) (h .0) (h .1) in
+      column-byte v _ _ (inColour colour) (p .background) j thrown (spanHas (p .x .0) (p .size) k) (litAt (fontDot font) v code blink l j) _ within
+      (shown-bit font v code blink l j) (sym (first-part (p .size) k (p .x .0) some (h .0))) (λ one. shade-at font v code blink l j one (row-within v p cut) (omega arith))))
 
   pub space-dot : (own : ℕ) → own ≤ mostColour
       → stretched (p .x .0) (12 * p .size) (p .size) (blankRow thrown) (inkOf (v .mode) 0 own) k a
@@ -92,10 +92,10 @@ module _ (font : List ℕ) (v : View) (p : Pen) (thrown : Bool) (cut : Cut v p) 
   space-dot own within =
       rw (cell-in-row 12 18 (v .line .0) k (p .x .0) (p .y .0) (p .size) (cut .from) (cut .to))
       (pick-where (spanHas (p .x .0) (12 * p .size) k) _ _ a (λ e.
-        let h = span-has (p .x .0) (12 * p .size) k e in
-        let j : ℕ = (k - p .x .0) / p .size in
-        column-byte v 0 0 0 own j thrown (spanHas (p .x .0) (p .size) k) false false within
-        (no-bits j) (sym (first-part (p .size) k (p .x .0) some (h .0))) (λ one. no-shade j)))
+      let h = span-has (p .x .0) (12 * p .size) k e in
+      let j : ℕ = (k - p .x .0) / p .size in
+      column-byte v 0 0 0 own j thrown (spanHas (p .x .0) (p .size) k) false false within
+      (no-bits j) (sym (first-part (p .size) k (p .x .0) some (h .0))) (λ one. no-shade j)))
 
 -- the bytes of a cell, as the table of modes tells them
 pub inked : (p : Pen) (row : Row) (mode on back shade off : ℕ) (out last : List ℕ) → shade ≡ groundByte mode true true (back % 8) → off ≡ groundByte mode true false (back % 8)

@@ -100,6 +100,7 @@ share-in n size at from lo hi = ⊎-elim (λ (some : 1 ≤ size). bounds some) (
         let least : 1 * size ≤ at - from = le-div-iff-mul-le some .0 lo in
         let most : at - from < n * size = div-lt-iff-lt-mul some .0 hi in
         (omega arith, omega arith)
+
     none : size < 1 → ⊥
     none z =
         let e : size ≡ 0 = omega arith in

@@ -131,16 +131,16 @@ module _ (dots : Drawn) (v : View) (start k : ℕ) where
         let i = at in
         ⊎-elim
         (λ (below : a .top .0 + 18 * a .size ≤ b .top .0).
-          let above : a .top .0 + 18 * a .size ≤ v .line .0 = ⊎-elim (λ (under : b .top .0 + 18 * b .size ≤ c .top .0). omega arith) (λ beside. let e = ap (λ (t : Lines). t .0) (beside .0) in omega arith) bc in
-          (cell-above 12 18 (v .line .0) k (a .left .0) (a .top .0) (a .size) above, throws-not dots v k a (λ r. omega arith)))
+        let above : a .top .0 + 18 * a .size ≤ v .line .0 = ⊎-elim (λ (under : b .top .0 + 18 * b .size ≤ c .top .0). omega arith) (λ beside. let e = ap (λ (t : Lines). t .0) (beside .0) in omega arith) bc in
+        (cell-above 12 18 (v .line .0) k (a .left .0) (a .top .0) (a .size) above, throws-not dots v k a (λ r. omega arith)))
         (λ beside. ⊎-elim
-          (λ (under : b .top .0 + 18 * b .size ≤ c .top .0).
-            let e = ap (λ (t : Lines). t .0) (beside .0) in
-            let s = beside .1 .0 in
-            let above : a .top .0 + 18 * a .size ≤ v .line .0 = omega arith in
-            (cell-above 12 18 (v .line .0) k (a .left .0) (a .top .0) (a .size) above, throws-not dots v k a (λ r. omega arith)))
-          (λ beside′. away a b beside beside′)
-          bc)
+        (λ (under : b .top .0 + 18 * b .size ≤ c .top .0).
+        let e = ap (λ (t : Lines). t .0) (beside .0) in
+        let s = beside .1 .0 in
+        let above : a .top .0 + 18 * a .size ≤ v .line .0 = omega arith in
+        (cell-above 12 18 (v .line .0) k (a .left .0) (a .top .0) (a .size) above, throws-not dots v k a (λ r. omega arith)))
+        (λ beside′. away a b beside beside′)
+        bc)
         ab
       where
         away : (a b : Cell) → (b .top ≡ a .top) × ((b .size ≡ a .size) × (a .left .0 + cellColumns * a .size ≤ b .left .0)) → (c .top ≡ b .top) × ((c .size ≡ b .size) × (b .left .0 + cellColumns * b .size ≤ c .left .0))
