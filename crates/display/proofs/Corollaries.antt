@@ -1,6 +1,6 @@
 -- What follows from the account: a line is its dots, and a smaller width cuts it; what is after an end does not matter; screens whose cells are alike have the same
 -- line, however their characters are numbered and drawn; left of the first cell and above it nothing is shown. (That cells never overlap is `one-cell` of Join.antt;
--- what a dot depends on, and what the shadow changes, is in Depends.antt.)
+-- what a dot depends on, and what the shadow changes, is claimed in crate pictures.)
 -- Assumes nothing.
 use mathlib.Core.Path.{_≡_, refl, sym, ap, _∙_}
 use mathlib.Core.Bool.{Bool, true, false}
@@ -24,8 +24,8 @@ use Rattle.units.specs.declared.Lines.{Lines}
 use Rattle.display.specs.declared.View.{View}
 use Rattle.display.specs.declared.Pen.{Pen}
 use Rattle.judging.specs.declared.Settings.{Settings}
-use Rattle.words.specs.declared.Kind.{Kind}
-use Rattle.words.specs.declared.Kind.the-variants.{Character, Space, Return, End}
+use Rattle.display.specs.declared.Kind.{Kind}
+use Rattle.display.specs.declared.Kind.the-variants.{Character, Space, Return, End}
 use Rattle.display.specs.Cells.{Shown, character, space, Cell, kindCell, rightOf, belowRow, rowPen, afterWord, goesOn, cellsFrom}
 use Rattle.display.specs.Picture.{Drawn, steadyOr, rowIn, columnIn, has, shadowOf, throws, shownDot, cellDot, shadedDot, dotAt}
 use Rattle.display.specs.Painting.{firstDot, firstLine, viewOf, screenOf, dotOf, lineOf}

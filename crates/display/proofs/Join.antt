@@ -13,8 +13,8 @@ use Rattle.laws.specs.Placing.{cellHas}
 use Rattle.laws.proofs.Holders.{holders-of-none}
 use Rattle.laws.proofs.Placing.{Past, past-none, past-cell, past-right, past-below}
 use Rattle.units.specs.declared.Dots.{Dots}
-use Rattle.words.specs.declared.Kind.{Kind}
-use Rattle.words.specs.declared.Kind.the-variants.{Character, Space, Return, End}
+use Rattle.display.specs.declared.Kind.{Kind}
+use Rattle.display.specs.declared.Kind.the-variants.{Character, Space, Return, End}
 use Rattle.display.specs.declared.View.{View}
 use Rattle.display.specs.declared.Pen.{Pen}
 use Rattle.display.specs.Cells.{Shown, Cell, character, space, kindCell, rightOf, belowRow, rowPen, afterWord, goesOn, cellsFrom}

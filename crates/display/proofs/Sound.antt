@@ -1,4 +1,4 @@
--- What a word decodes to is in range, since its parts are remainders.
+-- What a word decodes to, by the tests of its code and of T0; and that it is in range, since its parts are remainders.
 -- Assumes nothing.
 use mathlib.Core.Path.{_≡_, refl, sym, subst}
 use mathlib.Core.Bool.{Bool, true, false}
@@ -10,10 +10,27 @@ use Rattle.laws.specs.Pick.{pick}
 use Rattle.font.specs.Font.{fontCells}
 use Rattle.units.specs.declared.Lines.{Lines}
 use Rattle.judging.specs.Judging.{mostColour}
-use Rattle.words.specs.declared.Kind.{Kind}
-use Rattle.words.specs.declared.Kind.the-variants.{Character, Space, Return, End}
-use Rattle.words.specs.Words.{codeOf, returnCode, spaceCode, colourOf, markOf, sizeOf, spacingOf, kindOf}
+use Rattle.display.specs.declared.Kind.{Kind}
+use Rattle.display.specs.declared.Kind.the-variants.{Character, Space, Return, End}
+use Rattle.display.specs.Words.{codeOf, returnCode, spaceCode, colourOf, markOf, sizeOf, spacingOf, kindOf}
 use Rattle.display.specs.Steps.{mostSize, mostSpacing, Sound}
+
+module _ (w : ℕ) where
+  pub reads-end : eqb (codeOf w) spaceCode ≡ true → markOf w ≡ true → End ≡ kindOf w
+  unfolding kindOf
+  reads-end none mark = simp (none, mark)
+
+  pub reads-space : eqb (codeOf w) spaceCode ≡ true → markOf w ≡ false → Space (colourOf w) ≡ kindOf w
+  unfolding kindOf
+  reads-space none mark = simp (none, mark)
+
+  pub reads-return : eqb (codeOf w) spaceCode ≡ false → eqb (codeOf w) returnCode ≡ true → Return (sizeOf w) (record { 0 = spacingOf w }) ≡ kindOf w
+  unfolding kindOf
+  reads-return some back = simp (some, back)
+
+  pub reads-character : eqb (codeOf w) spaceCode ≡ false → eqb (codeOf w) returnCode ≡ false → Character (colourOf w) (codeOf w) (markOf w) ≡ kindOf w
+  unfolding kindOf
+  reads-character some other = simp (some, other)
 
 sound-space : (w : ℕ) (end : Bool) → Sound (pick end End (Space (colourOf w)))
 sound-space w true = tt

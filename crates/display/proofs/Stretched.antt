@@ -17,16 +17,13 @@ use Rattle.modes.specs.Modes.{groundByte, inColour}
 use Rattle.judging.specs.Judging.{mostColour}
 use Rattle.stretch.specs.declared.Row.{Row}
 use Rattle.stretch.specs.Stretch.{shadeSet, columnByte, stretched}
+use Rattle.units.specs.declared.Dots.{Dots}
 use Rattle.display.specs.declared.View.{View}
 use Rattle.display.specs.declared.Pen.{Pen}
 use Rattle.display.specs.Cells.{Cell, character, space}
 use Rattle.display.specs.Picture.{Drawn, has, litAt, shadowOf, throws, shownDot, cellDot}
-use Rattle.display.specs.Steps.{onFirst, blankRow, rowShown, inkOf, Cut}
+use Rattle.display.specs.Steps.{onFirst, blankRow, rowShown, inkOf, drawnDot, Cut}
 use Rattle.display.proofs.Shadow.{no-bits, shown-bit, shade-at, ground-plain}
-
--- dot k after this cell was painted, `before` telling whether the cell before it throws its shadow on the dot
-abbrev pub drawnDot : Drawn → View → ℕ → Bool → Cell → ℕ → ℕ
-drawnDot dots v k before c old = pick (has v k c) (cellDot dots v (either before (throws dots v k c)) k c) old
 
 -- the row of a font that the line cuts is one of its cell
 pub row-within : (v : View) (p : Pen) → Cut v p → (v .line .0 - p .y .0) / p .size < cellRows
@@ -73,7 +70,7 @@ module _ (v : View) (bits above on back j : ℕ) (thrown first lit shadow : Bool
 module _ (font : List ℕ) (v : View) (p : Pen) (thrown : Bool) (cut : Cut v p) (some : 1 ≤ p .size) (k a : ℕ) where
   pub character-dot : (colour code : ℕ) (blink : Bool) → p .background ≤ mostColour
       → stretched (p .x .0) (12 * p .size) (p .size) (rowShown font v code blink ((v .line .0 - p .y .0) / p .size) thrown) (inkOf (v .mode) (inColour colour) (p .background)) k a
-      ≡ drawnDot (fontDot font) v k (onFirst p thrown k) (record { left = p .x; top = p .y; size = p .size; background = p .background; shows = character colour code blink }) a
+      ≡ drawnDot (fontDot font) v k (onFirst (p .x) (p .size) thrown k) (record { left = p .x; top = p .y; size = p .size; background = p .background; shows = character colour code blink }) a
   unfolding patched shadowOf shownDot
   character-dot colour code blink within =
       rw (cell-in-row 12 18 (v .line .0) k (p .x .0) (p .y .0) (p .size) (cut .from) (cut .to))
@@ -87,7 +84,7 @@ module _ (font : List ℕ) (v : View) (p : Pen) (thrown : Bool) (cut : Cut v p) 
 
   pub space-dot : (own : ℕ) → own ≤ mostColour
       → stretched (p .x .0) (12 * p .size) (p .size) (blankRow thrown) (inkOf (v .mode) 0 own) k a
-      ≡ drawnDot (fontDot font) v k (onFirst p thrown k) (record { left = p .x; top = p .y; size = p .size; background = own; shows = space }) a
+      ≡ drawnDot (fontDot font) v k (onFirst (p .x) (p .size) thrown k) (record { left = p .x; top = p .y; size = p .size; background = own; shows = space }) a
   unfolding patched shadowOf shownDot
   space-dot own within =
       rw (cell-in-row 12 18 (v .line .0) k (p .x .0) (p .y .0) (p .size) (cut .from) (cut .to))
@@ -98,7 +95,7 @@ module _ (font : List ℕ) (v : View) (p : Pen) (thrown : Bool) (cut : Cut v p) 
       (no-bits j) (sym (first-part (p .size) k (p .x .0) some (h .0))) (λ one. no-shade j)))
 
 -- the bytes of a cell, as the table of modes tells them
-pub inked : (p : Pen) (row : Row) (mode on back shade off : ℕ) (out last : List ℕ) → shade ≡ groundByte mode true true (back % 8) → off ≡ groundByte mode true false (back % 8)
-    → last ≡ overlay (stretched (p .x .0) (cellColumns * p .size) (p .size) row (record { on = on; shade = shade; off = off })) out
-    → last ≡ overlay (stretched (p .x .0) (cellColumns * p .size) (p .size) row (inkOf mode on back)) out
-inked p row mode on back shade off out last is is′ laid = laid ∙ rw (is, is′)
+pub inked : (x : Dots) (size : ℕ) (row : Row) (mode on back shade off : ℕ) (out last : List ℕ) → shade ≡ groundByte mode true true (back % 8) → off ≡ groundByte mode true false (back % 8)
+    → last ≡ overlay (stretched (x .0) (cellColumns * size) size row (record { on = on; shade = shade; off = off })) out
+    → last ≡ overlay (stretched (x .0) (cellColumns * size) size row (inkOf mode on back)) out
+inked x size row mode on back shade off out last is is′ laid = laid ∙ rw (is, is′)

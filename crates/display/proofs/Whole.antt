@@ -26,7 +26,7 @@ use Rattle.judging.specs.Judging.{answerOf, said}
 use Rattle.judging.proofs.Accepted.{accepted-done, done-is, not-done}
 use Rattle.judging.proofs.Painted.{the-type}
 use Rattle.display.specs.declared.View.{View}
-use Rattle.words.specs.Words.{kindsOf}
+use Rattle.display.specs.Words.{kindsOf}
 use Rattle.display.specs.Cells.{Cell}
 use Rattle.display.specs.Picture.{Drawn, has, throws, cellDot, dotAt}
 use Rattle.display.specs.Painting.{firstDot, firstLine, screenOf, viewOf, dotOf, lineOf, leftBy}

@@ -11,8 +11,9 @@ use Rattle.font.specs.Font.{cellRows, cellColumns}
 use Rattle.units.specs.declared.Dots.{Dots}
 use Rattle.units.specs.declared.Lines.{Lines}
 use Rattle.display.specs.declared.Pen.{Pen}
-use Rattle.words.specs.declared.Kind.{Kind}
-use Rattle.words.specs.declared.Kind.the-variants.{Character, Space, Return, End}
+use Rattle.display.specs.declared.Placed.{Placed}
+use Rattle.display.specs.declared.Kind.{Kind}
+use Rattle.display.specs.declared.Kind.the-variants.{Character, Space, Return, End}
 
 -- what a cell shows: a character in a colour, blinking or not, or nothing
 pub data Shown : Type 0 where
@@ -26,6 +27,10 @@ pub record Cell : Type 0 where
   pub background : ℕ
   pub shows : Shown
 
+-- a word of this kind where the pen is
+abbrev pub placedAt : Pen → Kind → Placed
+placedAt p kind = record { x = p .x; y = p .y; size = p .size; kind = kind }
+
 -- the cell of a word of this kind: none for a return and an end. `before` is the background before it; a space has its own.
 unfoldable pub kindCell : Dots → Lines → ℕ → ℕ → Kind → List Cell
 kindCell x y size before (Character colour code blink) =
@@ -33,6 +38,9 @@ kindCell x y size before (Character colour code blink) =
 kindCell x y size before (Space own) = record { left = x; top = y; size = size; background = own; shows = space } ∷ []
 kindCell x y size before (Return next spacing) = []
 kindCell x y size before End = []
+
+abbrev pub cellOf : Placed → ℕ → List Cell
+cellOf c before = kindCell (c .x) (c .y) (c .size) before (c .kind)
 
 -- the next cell of the row, with the background from there on
 abbrev pub rightOf : Pen → ℕ → Pen
@@ -64,7 +72,7 @@ goesOn (Return next spacing) = true
 unfoldable pub cellsFrom : Dots → List Kind → Pen → List Cell
 cellsFrom left [] p = []
 cellsFrom left (kind ∷ kinds) p =
-    kindCell (p .x) (p .y) (p .size) (p .background) kind ++ pick (goesOn kind) (cellsFrom left kinds (afterWord left kind p)) []
+    cellOf (placedAt p kind) (p .background) ++ pick (goesOn kind) (cellsFrom left kinds (afterWord left kind p)) []
 
 -- the cells of a screen: the first row has size 1, and cells that no space precedes have the starting background
 abbrev pub cells : Dots → Lines → ℕ → List Kind → List Cell

@@ -13,8 +13,8 @@ use Rattle.display.specs.declared.View.{View}
 use Rattle.modes.specs.Modes.{video, litIn}
 use Rattle.judging.specs.declared.Settings.{Settings}
 use Rattle.judging.specs.Judging.{answerOf}
-use Rattle.words.specs.declared.Kind.{Kind}
-use Rattle.words.specs.Words.{kindsOf}
+use Rattle.display.specs.declared.Kind.{Kind}
+use Rattle.display.specs.Words.{kindsOf}
 use Rattle.display.specs.Cells.{Cell, cells}
 use Rattle.display.specs.Picture.{Drawn, dotAt}
 

@@ -1,27 +1,32 @@
 -- What the painter's own steps do, for the contracts of its private functions: no part of the account. proofs/Walk.antt joins it to the
 -- account's list of cells.
 -- Assumes nothing.
-use Prim.Native.Nat.{ℕ, _+_, _-_, _*_, _%_, _≤_, _<_}
+use Prim.Native.Nat.{ℕ, suc, _+_, _-_, _*_, _/_, _%_, _≤_, _<_}
 use mathlib.Core.Path.{_≡_}
-use mathlib.Core.List.{List}
+use mathlib.Core.List.{List, [], _∷_}
 use mathlib.Core.Bool.{Bool, true, false}
 use lib.Dec.{eqb, ltb}
 use lib.ListN.{length, getD}
 use Rattle.laws.specs.Pick.{pick, both, either}
 use Rattle.laws.specs.Lines.{firstShown, anyOf}
 use Rattle.laws.specs.Placing.{spanHas}
-use Rattle.font.specs.Font.{fontCells, fontRows, cellRows, cellColumns, rowOf}
+use Rattle.font.specs.Font.{fontCells, fontRows, cellRows, cellColumns, rowOf, bitSet}
+use Rattle.units.specs.declared.Dots.{Dots}
 use Rattle.units.specs.declared.Lines.{Lines}
 use Rattle.modes.specs.Modes.{inColour, black, groundByte}
 use Rattle.judging.specs.declared.Settings.{Settings}
 use Rattle.judging.specs.Judging.{wordCount, mostColour, mostPlace, mostFrequency}
-use Rattle.words.specs.declared.Kind.{Kind}
-use Rattle.words.specs.declared.Kind.the-variants.{Character, Space, Return, End}
+use Rattle.display.specs.declared.Kind.{Kind}
+use Rattle.display.specs.declared.Kind.the-variants.{Character, Space, Return, End}
 use Rattle.stretch.specs.declared.Row.{Row}
 use Rattle.stretch.specs.declared.Ink.{Ink}
 use Rattle.display.specs.declared.Pen.{Pen}
 use Rattle.display.specs.declared.View.{View}
-use Rattle.display.specs.Cells.{Cell}
+use Rattle.display.specs.declared.Placed.{Placed}
+use Rattle.display.specs.declared.RowEnd.{RowEnd}
+use Rattle.display.specs.declared.RowEnd.the-variants.{Over, Next}
+use Rattle.display.specs.Words.{kindOf}
+use Rattle.display.specs.Cells.{Cell, kindCell, cellsFrom}
 use Rattle.display.specs.Picture.{Drawn, has, throws, cellDot, steadyOr}
 
 -- dot k outside every cell, where a shadow falls on it or none does; `old` is what it was
@@ -35,9 +40,13 @@ paintedIn dots v cs k old shaded = firstShown (has v k) (cellDot dots v shaded k
 abbrev pub painted : Drawn → View → Bool → List Cell → ℕ → ℕ → ℕ
 painted dots v before cs k old = paintedIn dots v cs k old (either before (anyOf (throws dots v k) cs))
 
--- what the cell before the pen throws falls on the first column there
-abbrev pub onFirst : Pen → Bool → ℕ → Bool
-onFirst p thrown k = both thrown (spanHas (p .x .0) (p .size) k)
+-- what the cell before dot x throws falls on the first column there
+abbrev pub onFirst : Dots → ℕ → Bool → ℕ → Bool
+onFirst x size thrown k = both thrown (spanHas (x .0) size k)
+
+-- dot k after the cells of words of these kinds were painted, the first of which stands at the pen
+abbrev pub paintedOn : Drawn → View → Bool → Pen → List Kind → ℕ → ℕ → ℕ
+paintedOn dots v thrown p kinds k old = painted dots v (onFirst (p .x) (p .size) thrown k) (cellsFrom (v .left) kinds p) k old
 
 -- a row without dots
 abbrev pub blankRow : Bool → Row
@@ -63,8 +72,48 @@ abbrev pub inkOf : ℕ → ℕ → ℕ → Ink
 inkOf mode on background = record { on = on; shade = groundByte mode true true (background % 8); off = groundByte mode true false (background % 8) }
 
 -- dot k at the end of a row, after what its last cell throws has fallen on it
-abbrev pub endOf : Pen → Bool → ℕ → ℕ → ℕ
-endOf p thrown k old = pick (onFirst p thrown k) (inColour black) old
+abbrev pub endOf : Dots → ℕ → Bool → ℕ → ℕ → ℕ
+endOf x size thrown k old = pick (onFirst x size thrown k) (inColour black) old
+
+-- the pen where a word was placed
+abbrev pub penAt : Placed → ℕ → Pen
+penAt c background = record { x = c .x; y = c .y; size = c .size; background = background }
+
+-- whether the cell of a word of this kind at the pen throws its shadow on the first column after it, in the row that the line cuts
+abbrev pub handed : List ℕ → View → Pen → Kind → Bool
+handed font v p (Character colour code blink) = bitSet (aboveRow font v code blink ((v .line .0 - p .y .0) / p .size)) (cellColumns - 1)
+handed font v p (Space own) = false
+handed font v p (Return size spacing) = false
+handed font v p End = false
+
+-- dot k after this cell was painted, `before` telling whether the cell before it throws its shadow on the dot
+abbrev pub drawnDot : Drawn → View → ℕ → Bool → Cell → ℕ → ℕ
+drawnDot dots v k before c old = pick (has v k c) (cellDot dots v (either before (throws dots v k c)) k c) old
+
+-- dot k after a word of this kind was painted: its cell, or, as it has none, what the row's last cell throws
+abbrev pub drawnIn : Drawn → View → Bool → Pen → List Cell → ℕ → ℕ → ℕ
+drawnIn dots v thrown p [] k old = endOf (p .x) (p .size) thrown k old
+drawnIn dots v thrown p (c ∷ cs) k old = drawnDot dots v k (onFirst (p .x) (p .size) thrown k) c old
+
+abbrev pub drawn : Drawn → View → Bool → Pen → Kind → ℕ → ℕ → ℕ
+drawn dots v thrown p kind = drawnIn dots v thrown p (kindCell (p .x) (p .y) (p .size) (p .background) kind)
+
+-- where a row ends: one word further
+abbrev pub later : RowEnd → RowEnd
+later Over = Over
+later (Next read size spacing background) = Next (suc read) size spacing background
+
+-- by the row's first word, and where the rest of the row ends after a space and after a character
+abbrev pub endAt : Kind → ℕ → (ℕ → RowEnd) → RowEnd
+endAt (Character colour code blink) back rest = later (rest back)
+endAt (Space own) back rest = later (rest own)
+endAt (Return size spacing) back rest = Next 1 size spacing back
+endAt End back rest = Over
+
+-- how many words a row takes with its return, what the return says, and the background by then
+unfoldable pub rowEnd : List ℕ → ℕ → RowEnd
+rowEnd [] back = Over
+rowEnd (w ∷ ws) back = endAt (kindOf w) back (λ b. rowEnd ws b)
 
 -- the largest size of a row, and spacing; and a place that no word reaches
 abbrev pub mostSize : ℕ
@@ -82,6 +131,19 @@ Sound (Character colour code blink) = (colour ≤ mostColour) × (code < fontCel
 Sound (Space own) = own ≤ mostColour
 Sound (Return size spacing) = (1 ≤ size) × ((size ≤ mostSize) × (spacing .0 ≤ mostSpacing))
 Sound End = Unit
+
+-- what the end of a row says is in range, and its words are there
+pub record NextSound (n read next : ℕ) (gap : Lines) (back : ℕ) : Type 0 where
+  pub some : 1 ≤ read
+  pub there : read ≤ n
+  pub high : 1 ≤ next
+  pub size : next ≤ mostSize
+  pub spacing : gap .0 ≤ mostSpacing
+  pub colour : back ≤ mostColour
+
+abbrev pub EndSound : ℕ → RowEnd → Type 0
+EndSound n Over = Unit
+EndSound n (Next read size spacing background) = NextSound n read size spacing background
 
 -- what `paint_line` asks: words, a font, and settings that the painter's arithmetic takes
 pub record Usable (ws font : List ℕ) (s : Settings) : Type 0 where
@@ -107,12 +169,22 @@ pub record Cut (v : View) (p : Pen) : Type 0 where
   pub from : p .y .0 ≤ v .line .0
   pub to : v .line .0 < p .y .0 + cellRows * p .size
 
--- what `paint_words` asks, and `paint_row` of the row that the line cuts
-pub record WordsAsk (font : List ℕ) (v : View) (p : Pen) (n : ℕ) : Type 0 where
-  pub rows : length font ≡ fontRows
-  pub room : Room v p n
-
+-- what `row_step` asks, and `cell_step` in the row that the line cuts, where a shadow is thrown in mode 1 only
 pub record RowAsks (font : List ℕ) (v : View) (p : Pen) (n : ℕ) : Type 0 where
   pub rows : length font ≡ fontRows
   pub room : Room v p n
+
+pub record CellAsks (font : List ℕ) (v : View) (p : Pen) (thrown : Bool) (n : ℕ) : Type 0 where
+  pub rows : length font ≡ fontRows
+  pub room : Room v p n
   pub cut : Cut v p
+  pub only : thrown ≡ true → v .mode ≡ 1
+
+-- what `draw` asks: a word that was decoded, in such a row
+pub record DrawAsks (font : List ℕ) (v : View) (c : Placed) (background : ℕ) : Type 0 where
+  pub rows : length font ≡ fontRows
+  pub sound : Sound (c .kind)
+  pub colour : background ≤ mostColour
+  pub some : 1 ≤ c .size
+  pub size : c .size ≤ mostSize
+  pub cut : Cut v (penAt c background)

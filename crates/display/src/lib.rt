@@ -1,25 +1,49 @@
 // The painter of the on-screen display: one line of dots from display words, font, settings and frame number.
 ghost use mathlib.Core.Path.{_≡_};
-ghost use mathlib.Core.Bool.{false};
+ghost use mathlib.Core.Bool.{true, false};
 ghost use Prim.Native.Nat.{_*_, _/_, _≤_, _<_};
 ghost use lib.ListN.{length};
 ghost use Rattle.laws.specs.Lines.{overlay};
 ghost use Rattle.laws.specs.Lists.{tabulate};
 ghost use Rattle.font.specs.Font.{fontCells, fontRows, cellRows, cellColumns, fontDot};
-ghost use Rattle.judging.specs.Judging.{answerOf, said};
-ghost use Rattle.words.specs.Words.{kindsOf};
+ghost use Rattle.judging.specs.Judging.{answerOf, said, mostColour};
 ghost use Rattle.stretch.specs.Stretch.{stretched};
-ghost use Rattle.display.specs.Cells.{rightOf, rowPen, cellsFrom};
+ghost use Rattle.display.specs.Words.{kindOf, kindsOf};
+ghost use Rattle.display.specs.Cells.{placedAt, rightOf, belowRow, rowPen, cellsFrom};
 ghost use Rattle.display.specs.Picture.{steadyOr, dotAt};
 ghost use Rattle.display.specs.Painting.{viewOf, screenOf, leftBy};
-ghost use Rattle.display.specs.Steps.{painted, blankRow, aboveAt, rowShown, inkOf, endOf, mostSize, far, Usable, WordsAsk, RowAsks};
+ghost use Rattle.display.specs.Steps.{painted, paintedOn, penAt, handed, drawn, blankRow, aboveAt, rowShown, inkOf, endOf, rowEnd, mostSize, mostSpacing, far, Sound, EndSound, Usable, RowAsks, CellAsks, DrawAsks};
 use judging::Painted;
 use judging::Settings;
 use stretch::Ink;
 use stretch::Row;
 use units::Dots;
 use units::Lines;
-use words::Kind;
+
+// What a word is.
+pub enum Kind {
+    Character {
+        colour: u8,
+        code: usize,
+        blink: bool,
+    },
+    Space {
+        background: u8,
+    },
+    Return {
+        size: usize,
+        spacing: Lines,
+    },
+    End,
+}
+
+// A word of the decoded screen: where it stands, its row's size, and what it is.
+struct Placed {
+    x: Dots,
+    y: Lines,
+    size: usize,
+    kind: Kind,
+}
 
 // Where the next word stands, and the background by then.
 pub struct Pen {
@@ -36,6 +60,22 @@ pub struct View {
     mode: u32,
     lit: bool,
 }
+
+// Where a row ends: with the words, or at a return, after so many words.
+enum RowEnd {
+    Over,
+    Next {
+        read: usize,
+        size: usize,
+        spacing: Lines,
+        background: u8,
+    },
+}
+
+// The codes that are no characters.
+const RETURN: u16 = 62;
+
+const SPACE: u16 = 63;
 
 // Paints the first `width` dots of a line to `out`; the bytes after them stay, and all stay where the call is refused.
 pub fn paint(
@@ -85,102 +125,246 @@ fn paint_line(
     };
     let start = settings.colour as u8;
     fill::fill(out, modes::ground(settings.mode, false, false, start));
-    paint_words(words, font, view, Lines(y), start, out);
+    row_step(words, font, view, Lines(y), 1, start, out);
 }
 
-// The cells of these words over the line, the first row starting at line `top`. A row above the line is passed over, word by word, and below it nothing is left.
-fn paint_words(words: &[u16], font: &[u16], view: View, top: Lines, start: u8, out: &mut [u8])
-    requires { ⌜ WordsAsk (now font) view (rowPen (view .left) top 1 start) (length (now words)) ⌝ }
-    ensures { λ _. ⌜ now (out .exit) ≡ overlay (painted (fontDot (now (font .entry))) view false (cellsFrom (view .left) (kindsOf (now (words .entry))) (rowPen (view .left) top 1 start))) (now (out .entry)) ⌝ }
+// A row of this size starts at line y with these words. A row above the line is passed over at once, and below the line nothing is left.
+fn row_step(
+    words: &[u16],
+    font: &[u16],
+    view: View,
+    y: Lines,
+    size: usize,
+    background: u8,
+    out: &mut [u8],
+)
+    requires { ⌜ RowAsks (now font) view (rowPen (view .left) y size background) (length (now words)) ⌝ }
+    ensures { λ _. ⌜ now (out .exit) ≡ overlay (painted (fontDot (now (font .entry))) view false (cellsFrom (view .left) (kindsOf (now (words .entry))) (rowPen (view .left) y size background))) (now (out .entry)) ⌝ }
 {
     let line = view.line.0;
-    let mut y = top.0;
-    let mut size = 1;
-    let mut back = start;
+    if line < y.0 {
+        return;
+    }
+    let end = y.0 + font::CELL_ROWS * size;
+    if line < end {
+        let left = view.left;
+        cell_step(
+            words,
+            font,
+            view,
+            Pen {
+                x: left,
+                y: y,
+                size: size,
+                background: background,
+            },
+            false,
+            out,
+        );
+        return;
+    }
+    match row_end(words, background) {
+        RowEnd::Over => {}
+        RowEnd::Next {
+            read,
+            size: next,
+            spacing,
+            background: back,
+        } => {
+            let top = below(y, size, spacing);
+            row_step(&words[read..], font, view, top, next, back, out)
+        }
+    }
+}
+
+// The first of these words stands at the pen, in the row that the line cuts. `thrown` tells whether the cell before it throws its shadow on the line here: each cell hands
+// the next what its last column throws, and what the row's last cell throws falls on what comes after the row.
+fn cell_step(words: &[u16], font: &[u16], view: View, pen: Pen, thrown: bool, out: &mut [u8])
+    requires { ⌜ CellAsks (now font) view pen thrown (length (now words)) ⌝ }
+    ensures { λ _. ⌜ now (out .exit) ≡ overlay (paintedOn (fontDot (now (font .entry))) view thrown pen (kindsOf (now (words .entry)))) (now (out .entry)) ⌝ }
+{
+    if words.len() == 0 {
+        end_row(pen.x, pen.size, thrown, out);
+        return;
+    }
+    let cell = place(words[0], pen);
+    let next = draw(cell, pen.background, thrown, font, view, out);
+    let kind = cell.kind;
+    let rest = &words[1..];
+    match kind {
+        Kind::End => {}
+        Kind::Return { size, spacing } => {
+            let y = below(cell.y, cell.size, spacing);
+            row_step(rest, font, view, y, size, pen.background, out)
+        }
+        Kind::Space { background } => cell_step(
+            rest,
+            font,
+            view,
+            right(pen, background),
+            next,
+            out,
+        ),
+        Kind::Character { .. } => cell_step(
+            rest,
+            font,
+            view,
+            right(pen, pen.background),
+            next,
+            out,
+        ),
+    }
+}
+
+// How many words a row takes, with its return, and what follows from them.
+fn row_end(words: &[u16], background: u8) -> RowEnd
+    requires { ⌜ background ≤ mostColour ⌝ }
+    ensures { λ r. ⌜ (r ≡ rowEnd (now (words .entry)) background) × EndSound (length (now (words .entry))) r ⌝ }
+{
+    let mut back = background;
     let mut i = 0;
     while i < words.len() {
-        let end = y + font::CELL_ROWS * size;
-        if line < end {
-            if line < y {
-                return;
-            }
-            let left = view.left;
-            let pen = Pen {
-                x: left,
-                y: Lines(y),
-                size: size,
-                background: back,
-            };
-            paint_row(&words[i..], font, view, pen, out);
-            return;
-        }
-        let kind = words::decode(words[i]);
+        let kind = decode(words[i]);
         i += 1;
         match kind {
             Kind::End => {
-                return;
+                return RowEnd::Over;
             }
-            Kind::Return {
-                size: next,
-                spacing,
-            } => {
-                y = end + spacing.0;
-                size = next;
+            Kind::Return { size, spacing } => {
+                return RowEnd::Next {
+                    read: i,
+                    size: size,
+                    spacing: spacing,
+                    background: back,
+                };
             }
-            Kind::Space { background } => {
-                back = background;
+            Kind::Space { background: own } => {
+                back = own;
             }
             Kind::Character { .. } => {}
         }
     }
+    RowEnd::Over
 }
 
-// The row that the line cuts: its cells from the pen on. Each hands the next what its last column throws, and the row's end takes what the last cell throws.
-fn paint_row(words: &[u16], font: &[u16], view: View, start: Pen, out: &mut [u8])
-    requires { ⌜ RowAsks (now font) view start (length (now words)) ⌝ }
-    ensures { λ _. ⌜ now (out .exit) ≡ overlay (painted (fontDot (now (font .entry))) view false (cellsFrom (view .left) (kindsOf (now (words .entry))) start)) (now (out .entry)) ⌝ }
+// Where the next cell of the row stands, with the background from there on.
+fn right(pen: Pen, background: u8) -> Pen
+    requires { ⌜ (pen .x .0 ≤ far) × (pen .size ≤ mostSize) ⌝ }
+    ensures { λ r. ⌜ r ≡ rightOf pen background ⌝ }
 {
-    let l = cut_row(view.line.0 - start.y.0, start.size);
-    let mut pen = start;
-    let mut thrown = false;
-    let mut i = 0;
-    while i < words.len() {
-        let kind = words::decode(words[i]);
-        i += 1;
-        match kind {
+    let y = pen.y;
+    Pen {
+        x: Dots(pen.x.0 + font::CELL_COLUMNS * pen.size),
+        y: y,
+        size: pen.size,
+        background: background,
+    }
+}
+
+// Where the next row starts.
+fn below(y: Lines, size: usize, spacing: Lines) -> Lines
+    requires { ⌜ (y .0 ≤ far) × ((size ≤ mostSize) × (spacing .0 ≤ mostSpacing)) ⌝ }
+    ensures { λ r. ⌜ r ≡ belowRow y size spacing ⌝ }
+{
+    Lines(y.0 + font::CELL_ROWS * size + spacing.0)
+}
+
+// A word where the pen is.
+fn place(word: u16, pen: Pen) -> Placed
+    ensures { λ r. ⌜ (r ≡ placedAt pen (kindOf word)) × Sound (r .kind) ⌝ }
+{
+    let kind = decode(word);
+    let x = pen.x;
+    let y = pen.y;
+    Placed {
+        x: x,
+        y: y,
+        size: pen.size,
+        kind: kind,
+    }
+}
+
+// What a word is, by the ten bits that are kept of it.
+fn decode(word: u16) -> Kind
+    ensures { λ r. ⌜ r ≡ kindOf word ⌝ }
+{
+    let code = word / 16 % 64;
+    let colour = (word / 2 % 8) as u8;
+    let mark = word % 2 == 1;
+    match code {
+        SPACE => {
+            if mark {
+                Kind::End
+            } else {
+                Kind::Space { background: colour }
+            }
+        }
+        RETURN => {
+            let size = (word / 4 % 4 + 1) as usize;
+            let lines = (word % 4 * 4) as usize;
+            Kind::Return {
+                size: size,
+                spacing: Lines(lines),
+            }
+        }
+        _ => {
+            let character = code as usize;
             Kind::Character {
-                colour,
-                code,
-                blink,
-            } => {
-                let row = row_shown(font, view, code, blink, l, thrown);
-                draw(pen, row, view.mode, 8 + colour, pen.background, out);
-                thrown = row.above % 2 == 1;
-                pen = right(pen, pen.background);
-            }
-            Kind::Space { background } => {
-                let row = blank(thrown);
-                draw(pen, row, view.mode, 0, background, out);
-                thrown = false;
-                pen = right(pen, background);
-            }
-            Kind::Return { .. } => {
-                end_row(pen, thrown, out);
-                return;
-            }
-            Kind::End => {
-                end_row(pen, thrown, out);
-                return;
+                colour: colour,
+                code: character,
+                blink: mark,
             }
         }
     }
-    end_row(pen, thrown, out);
 }
 
-// A cell's row where the pen is: `on` for its dots, and for the others what the mode shows on this background, in the shadow and out of it.
-fn draw(pen: Pen, row: Row, mode: u32, on: u8, background: u8, out: &mut [u8])
-    requires { ⌜ pen .size ≤ mostSize ⌝ }
-    ensures { λ _. ⌜ now (out .exit) ≡ overlay (stretched (pen .x .0) (cellColumns * pen .size) (pen .size) row (inkOf mode on background)) (now (out .entry)) ⌝ }
+// Paints the cell of a word in the row that the line cuts; `background` is the one before the word, and the cell before throws its shadow on this one or not. A return and an
+// end have no cell: what is thrown falls on what comes after the row. The answer is whether this cell throws its shadow on the next.
+fn draw(
+    cell: Placed,
+    background: u8,
+    thrown: bool,
+    font: &[u16],
+    view: View,
+    out: &mut [u8],
+) -> bool
+    requires { ⌜ DrawAsks (now font) view cell background ⌝ }
+    ensures { λ r. ⌜ (r ≡ handed (now (font .entry)) view (penAt cell background) (cell .kind)) × (now (out .exit) ≡ overlay (drawn (fontDot (now (font .entry))) view thrown (penAt cell background) (cell .kind)) (now (out .entry))) ⌝ }
+{
+    let kind = cell.kind;
+    let x = cell.x;
+    let y = cell.y;
+    let size = cell.size;
+    match kind {
+        Kind::Character {
+            colour,
+            code,
+            blink,
+        } => {
+            let l = cut_row(view.line.0 - y.0, size);
+            let row = row_shown(font, view, code, blink, l, thrown);
+            lay(x, size, row, view.mode, 8 + colour, background, out);
+            row.above % 2 == 1
+        }
+        Kind::Space { background: own } => {
+            lay(x, size, blank(thrown), view.mode, 0, own, out);
+            false
+        }
+        Kind::Return { .. } => {
+            end_row(x, size, thrown, out);
+            false
+        }
+        Kind::End => {
+            end_row(x, size, thrown, out);
+            false
+        }
+    }
+}
+
+// A cell's row from dot x on: `on` for its dots, and for the others what the mode shows on this background, in the shadow and out of it.
+fn lay(x: Dots, size: usize, row: Row, mode: u32, on: u8, background: u8, out: &mut [u8])
+    requires { ⌜ size ≤ mostSize ⌝ }
+    ensures { λ _. ⌜ now (out .exit) ≡ overlay (stretched (x .0) (cellColumns * size) size row (inkOf mode on background)) (now (out .entry)) ⌝ }
 {
     let shade = modes::ground(mode, true, true, background);
     let off = modes::ground(mode, true, false, background);
@@ -189,18 +373,16 @@ fn draw(pen: Pen, row: Row, mode: u32, on: u8, background: u8, out: &mut [u8])
         shade: shade,
         off: off,
     };
-    let x = pen.x;
-    stretch::stretch(out, x, pen.size as u8, row, ink);
+    stretch::stretch(out, x, size as u8, row, ink);
 }
 
 // What a row's last cell throws falls on the first column after it.
-fn end_row(pen: Pen, thrown: bool, out: &mut [u8])
-    requires { ⌜ pen .size ≤ mostSize ⌝ }
-    ensures { λ _. ⌜ now (out .exit) ≡ overlay (endOf pen thrown) (now (out .entry)) ⌝ }
+fn end_row(x: Dots, size: usize, thrown: bool, out: &mut [u8])
+    requires { ⌜ size ≤ mostSize ⌝ }
+    ensures { λ _. ⌜ now (out .exit) ≡ overlay (endOf x size thrown) (now (out .entry)) ⌝ }
 {
     if thrown {
-        let x = pen.x;
-        stretch::strip(out, x, pen.size as u8, modes::ground(1, false, true, 0));
+        stretch::strip(out, x, size as u8, modes::ground(1, false, true, 0));
     }
 }
 
@@ -261,19 +443,5 @@ fn cut_row(distance: usize, size: usize) -> usize
         2 => distance / 2,
         3 => distance / 3,
         _ => distance / 4,
-    }
-}
-
-// Where the next cell of the row stands, with the background from there on.
-fn right(pen: Pen, background: u8) -> Pen
-    requires { ⌜ (pen .x .0 ≤ far) × (pen .size ≤ mostSize) ⌝ }
-    ensures { λ r. ⌜ r ≡ rightOf pen background ⌝ }
-{
-    let y = pen.y;
-    Pen {
-        x: Dots(pen.x.0 + font::CELL_COLUMNS * pen.size),
-        y: y,
-        size: pen.size,
-        background: background,
     }
 }

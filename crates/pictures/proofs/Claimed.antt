@@ -18,8 +18,8 @@ use Rattle.font.specs.Font.{cellRows, cellColumns}
 use Rattle.modes.specs.Modes.{groundByte}
 use Rattle.units.specs.declared.Dots.{Dots}
 use Rattle.units.specs.declared.Lines.{Lines}
-use Rattle.words.specs.declared.Kind.{Kind}
-use Rattle.words.specs.declared.Kind.the-variants.{Character, Space, Return, End}
+use Rattle.display.specs.declared.Kind.{Kind}
+use Rattle.display.specs.declared.Kind.the-variants.{Character, Space, Return, End}
 use Rattle.display.specs.declared.View.{View}
 use Rattle.display.specs.declared.Pen.{Pen}
 use Rattle.display.specs.Cells.{Cell, Shown, character, space, kindCell, rightOf, belowRow, rowPen, afterWord, goesOn, cellsFrom}

@@ -6,7 +6,7 @@ use Rattle.laws.specs.Lists.{tabulate}
 use Rattle.laws.specs.Placing.{cellHas}
 use Rattle.laws.specs.Within.{within}
 use Rattle.font.specs.Font.{isFont}
-use Rattle.words.specs.Words.{kindOf, kindsOf}
+use Rattle.display.specs.Words.{kindOf, kindsOf}
 use Rattle.judging.specs.Judging.{answerOf}
 use Rattle.display.specs.Cells.{kindCell, afterWord, cellsFrom}
 use Rattle.display.specs.Picture.{shadowOf, shownDot, dotAt}

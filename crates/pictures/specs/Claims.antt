@@ -10,7 +10,7 @@ use Rattle.laws.specs.Lines.{anyOf}
 use Rattle.units.specs.declared.Dots.{Dots}
 use Rattle.units.specs.declared.Lines.{Lines}
 use Rattle.modes.specs.Modes.{video, inColour, black}
-use Rattle.words.specs.declared.Kind.{Kind}
+use Rattle.display.specs.declared.Kind.{Kind}
 use Rattle.display.specs.declared.View.{View}
 use Rattle.display.specs.declared.Pen.{Pen}
 use Rattle.display.specs.Cells.{Cell, cellsFrom}

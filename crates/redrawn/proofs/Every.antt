@@ -7,7 +7,7 @@ use native.Mathlib.Omega.{arith}
 use Rattle.laws.specs.Lists.{upto}
 use Rattle.laws.proofs.Tests.{upto-at}
 use Rattle.font.specs.Font.{fontCells}
-use Rattle.words.specs.Words.{kindOf}
+use Rattle.display.specs.Words.{kindOf}
 use Rattle.redrawn.specs.Screen.{isItem, EveryWord}
 
 test : ℕ → Bool

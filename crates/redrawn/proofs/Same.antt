@@ -17,13 +17,13 @@ use Rattle.units.specs.declared.Dots.{Dots}
 use Rattle.units.specs.declared.Lines.{Lines}
 use Rattle.judging.specs.declared.Settings.{Settings}
 use Rattle.judging.specs.Judging.{wordCount, mostWord, mostColour, areWords, answerOf}
-use Rattle.words.specs.declared.Kind.{Kind}
-use Rattle.words.specs.declared.Kind.the-variants.{Character, Space, Return, End}
-use Rattle.words.specs.Words.{codeOf, returnCode, spaceCode, colourOf, sizeOf, spacingOf, kindOf, kindsOf}
+use Rattle.display.specs.declared.Kind.{Kind}
+use Rattle.display.specs.declared.Kind.the-variants.{Character, Space, Return, End}
+use Rattle.display.specs.Words.{codeOf, returnCode, spaceCode, colourOf, sizeOf, spacingOf, kindOf, kindsOf}
 use Rattle.display.specs.Cells.{Shown, character, space, kindCell, afterWord, rowPen}
 use Rattle.display.specs.Painting.{firstDot, firstLine, lineOf, leftBy}
 use Rattle.display.proofs.Corollaries.{SameShown, Alike, SameKind, alike-cells, same-line}
-use Rattle.words.proofs.Told.{reads-end, reads-space, reads-return, reads-character}
+use Rattle.display.proofs.Sound.{reads-end, reads-space, reads-return, reads-character}
 use Rattle.packer.specs.Glyphs.{glyphsIn}
 use Rattle.sharing.specs.Sharing.{ShownBy, fontGiven, cellGiven}
 use Rattle.sharing.proofs.Shared.{shows-each}

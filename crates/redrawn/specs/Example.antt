@@ -10,8 +10,8 @@ use Rattle.laws.specs.Lists.{tabulate}
 use Rattle.laws.specs.Said.{refused}
 use Rattle.font.specs.Font.{cellRows, fontRows, fontDot}
 use Rattle.judging.specs.declared.Settings.{Settings}
-use Rattle.words.specs.declared.Kind.{Kind}
-use Rattle.words.specs.declared.Kind.the-variants.{Character, End}
+use Rattle.display.specs.declared.Kind.{Kind}
+use Rattle.display.specs.declared.Kind.the-variants.{Character, End}
 use Rattle.display.specs.Painting.{lineOf, leftBy}
 use Rattle.packer.specs.Glyphs.{glyphsIn}
 use Rattle.packer.specs.Packing.{answerOf}

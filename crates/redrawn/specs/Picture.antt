@@ -12,8 +12,8 @@ use Rattle.units.specs.declared.Dots.{Dots}
 use Rattle.units.specs.declared.Lines.{Lines}
 use Rattle.judging.specs.declared.Settings.{Settings}
 use Rattle.judging.specs.Judging.{areWords, answerOf}
-use Rattle.words.specs.declared.Kind.{Kind}
-use Rattle.words.specs.Words.{kindsOf}
+use Rattle.display.specs.declared.Kind.{Kind}
+use Rattle.display.specs.Words.{kindsOf}
 use Rattle.display.specs.Painting.{lineOf, leftBy}
 use Rattle.packer.specs.Glyphs.{glyphsIn}
 use Rattle.sharing.specs.Sharing.{ShownBy, Accepted, fontGiven, cellGiven}

@@ -12,9 +12,9 @@ use Rattle.laws.specs.Pick.{pick, both}
 use Rattle.font.specs.Font.{fontCells}
 use Rattle.port.specs.Port.{wordOf}
 use Rattle.judging.specs.Judging.{wordCount, mostWord, mostColour}
-use Rattle.words.specs.declared.Kind.{Kind}
-use Rattle.words.specs.declared.Kind.the-variants.{Character, Space, Return, End}
-use Rattle.words.specs.Words.{returnCode, spaceCode, kindOf}
+use Rattle.display.specs.declared.Kind.{Kind}
+use Rattle.display.specs.declared.Kind.the-variants.{Character, Space, Return, End}
+use Rattle.display.specs.Words.{returnCode, spaceCode, kindOf}
 
 -- an item says what a word can say: one of 8 colours; a size of 1 to 4, and 0, 4, 8 or 12 lines of spacing; and its character is one of n glyphs
 unfoldable pub isItem : ℕ → Kind → Bool

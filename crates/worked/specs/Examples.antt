@@ -10,9 +10,9 @@ use lib.Count.{trailingZeros}
 use Rattle.laws.specs.Pick.{pick}
 use Rattle.wave.specs.Wave.{subPeriod, subPeriods, pair, added, level, wave}
 use Rattle.periods.specs.Demand.{highs, highClocks}
-use Rattle.words.specs.declared.Kind.{Kind}
-use Rattle.words.specs.declared.Kind.the-variants.{Character, Space, Return, End}
-use Rattle.words.specs.Words.{kindOf}
+use Rattle.display.specs.declared.Kind.{Kind}
+use Rattle.display.specs.declared.Kind.the-variants.{Character, Space, Return, End}
+use Rattle.display.specs.Words.{kindOf}
 use Rattle.modes.specs.Modes.{litIn}
 
 pub data Question : Type 0 where

@@ -32,14 +32,14 @@ returns c =
     let byte = (let p : tie.After-ground = search in p .ground .ensures) in
     let laid = (let p : tie.After-strip = search in p .strip .ensures) in
     laid
-    ∙ ap (λ (n : ℕ). overlay (patched (a .pen .x .0) (a .pen .size) (λ d. n)) (a .out .now)) byte
-    ∙ overlay-same (patched (a .pen .x .0) (a .pen .size) (λ d. 8)) (endOf (a .pen) (a .thrown)) (a .out .now) (λ k old. simp thrown)
+    ∙ ap (λ (n : ℕ). overlay (patched (a .x .0) (a .size) (λ d. n)) (a .out .now)) byte
+    ∙ overlay-same (patched (a .x .0) (a .size) (λ d. 8)) (endOf (a .x) (a .size) (a .thrown)) (a .out .now) (λ k old. simp thrown)
 
 returns-2 : tie.Need-returns-2
 returns-2 c =
     let a = (let s : tie.Start = search in s .args) in
     let none : a .thrown ≡ false = search in
-    overlay-leaves (endOf (a .pen) (a .thrown)) (a .out .now) (λ k old lt. simp none)
+    overlay-leaves (endOf (a .x) (a .size) (a .thrown)) (a .out .now) (λ k old lt. simp none)
 
 pub end-row-spec : {M : Type 1} → statement M
 end-row-spec = tie.close (tie.spec cast-strip ground-requires strip-requires same-length returns returns-2)

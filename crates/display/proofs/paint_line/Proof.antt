@@ -31,8 +31,8 @@ ground-requires c κs = search needs
 fill-requires : tie.Need-fill-requires
 fill-requires c κs = search needs
 
-paint-words-requires : tie.Need-paint-words-requires
-paint-words-requires c κs =
+row-step-requires : tie.Need-row-step-requires
+row-step-requires c κs =
     let pre = (let s : tie.Start = search in s .pre) in
     record { rows = pre .rows; room = record { start = omega arith; right = omega arith; down = omega arith; some = omega arith; size = omega arith; colour = omega arith } }
 
@@ -41,7 +41,7 @@ same-length c = search needs
 
 returns : tie.Need-returns
 returns c =
-    let walked = (let r : tie.After-paint-words = search in r .paint-words .ensures) in
+    let walked = (let r : tie.After-row-step = search in r .row-step .ensures) in
     let filled = (let f : tie.After-fill = search in f .fill .ensures) in
     let other = (let o : tie.After-ground = search in o .ground .ensures) in
     let blink = (let b : tie.After-lit = search in b .lit .ensures) in
@@ -61,6 +61,6 @@ paint-line-spec =
     cast-start
     ground-requires
     fill-requires
-    paint-words-requires
+    row-step-requires
     same-length
     returns)

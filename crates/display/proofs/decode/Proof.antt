@@ -1,15 +1,15 @@
--- `words::decode`: each return by the tests of the code and of T0.
+-- `display::decode`: each return by the tests of the code and of T0.
 -- Assumes nothing.
 use mathlib.Core.Path.{_≡_}
 use mathlib.Core.Bool.{true, false}
 use borrow.Author.Tests.{eq-eqb, ne-eqb}
 use native.Mathlib.Omega.{arith}
 use lib.Dec.{eqb}
-use Rattle.words.specs.Words.{codeOf, returnCode, spaceCode, markOf}
-use Rattle.words.proofs.Told.{reads-end, reads-space, reads-return, reads-character}
+use Rattle.display.specs.Words.{codeOf, returnCode, spaceCode, markOf}
+use Rattle.display.proofs.Sound.{reads-end, reads-space, reads-return, reads-character}
 use borrow.Author.Needs.{needs}
-use Rattle.words.proofs.decode.Statement.{statement}
-use Rattle.words.proofs.decode.Tie as tie
+use Rattle.display.proofs.decode.Statement.{statement}
+use Rattle.display.proofs.decode.Tie as tie
 
 cast-colour : tie.Need-cast-colour
 cast-colour c = search needs

@@ -6,8 +6,8 @@ use mathlib.Core.List.{List, map}
 use mathlib.Core.Bool.{Bool}
 use lib.Dec.{eqb}
 use Rattle.laws.specs.Pick.{pick}
-use Rattle.words.specs.declared.Kind.{Kind}
-use Rattle.words.specs.declared.Kind.the-variants.{Character, Space, Return, End}
+use Rattle.display.specs.declared.Kind.{Kind}
+use Rattle.display.specs.declared.Kind.the-variants.{Character, Space, Return, End}
 
 abbrev pub codeOf : ℕ → ℕ
 codeOf w = w / 16 % 64
