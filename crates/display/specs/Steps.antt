@@ -169,16 +169,15 @@ pub record Cut (v : View) (p : Pen) : Type 0 where
   pub from : p .y .0 ≤ v .line .0
   pub to : v .line .0 < p .y .0 + cellRows * p .size
 
--- what `row_step` asks, and `cell_step` in the row that the line cuts, where a shadow is thrown in mode 1 only
+-- what `row_step` asks, and `cell_step` of the row that the line cuts
 pub record RowAsks (font : List ℕ) (v : View) (p : Pen) (n : ℕ) : Type 0 where
   pub rows : length font ≡ fontRows
   pub room : Room v p n
 
-pub record CellAsks (font : List ℕ) (v : View) (p : Pen) (thrown : Bool) (n : ℕ) : Type 0 where
+pub record CellAsks (font : List ℕ) (v : View) (p : Pen) (n : ℕ) : Type 0 where
   pub rows : length font ≡ fontRows
   pub room : Room v p n
   pub cut : Cut v p
-  pub only : thrown ≡ true → v .mode ≡ 1
 
 -- what `draw` asks: a word that was decoded, in such a row
 pub record DrawAsks (font : List ℕ) (v : View) (c : Placed) (background : ℕ) : Type 0 where

@@ -12,7 +12,7 @@ ghost use Rattle.display.specs.Words.{kindOf, kindsOf};
 ghost use Rattle.display.specs.Cells.{placedAt, rightOf, belowRow, rowPen, cellsFrom};
 ghost use Rattle.display.specs.Picture.{steadyOr, dotAt};
 ghost use Rattle.display.specs.Painting.{viewOf, screenOf, leftBy};
-ghost use Rattle.display.specs.Steps.{painted, paintedOn, penAt, handed, drawn, blankRow, aboveAt, rowShown, inkOf, endOf, rowEnd, mostSize, mostSpacing, far, Sound, EndSound, Usable, RowAsks, CellAsks, DrawAsks};
+ghost use Rattle.display.specs.Steps.{painted, penAt, handed, drawn, blankRow, aboveAt, rowShown, inkOf, endOf, rowEnd, mostSize, mostSpacing, far, Sound, EndSound, Usable, RowAsks, CellAsks, DrawAsks};
 use judging::Painted;
 use judging::Settings;
 use stretch::Ink;
@@ -158,7 +158,6 @@ fn row_step(
                 size: size,
                 background: background,
             },
-            false,
             out,
         );
         return;
@@ -177,43 +176,38 @@ fn row_step(
     }
 }
 
-// The first of these words stands at the pen, in the row that the line cuts. `thrown` tells whether the cell before it throws its shadow on the line here: each cell hands
-// the next what its last column throws, and what the row's last cell throws falls on what comes after the row.
-fn cell_step(words: &[u16], font: &[u16], view: View, pen: Pen, thrown: bool, out: &mut [u8])
-    requires { ⌜ CellAsks (now font) view pen thrown (length (now words)) ⌝ }
-    ensures { λ _. ⌜ now (out .exit) ≡ overlay (paintedOn (fontDot (now (font .entry))) view thrown pen (kindsOf (now (words .entry)))) (now (out .entry)) ⌝ }
+// The row that the line cuts: the cells of its words, of which the first stands at the pen. Each cell hands the next what its last column throws, and what the row's last
+// cell throws falls on what comes after it. The rest of the words goes to the row step.
+fn cell_step(words: &[u16], font: &[u16], view: View, start: Pen, out: &mut [u8])
+    requires { ⌜ CellAsks (now font) view start (length (now words)) ⌝ }
+    ensures { λ _. ⌜ now (out .exit) ≡ overlay (painted (fontDot (now (font .entry))) view false (cellsFrom (view .left) (kindsOf (now (words .entry))) start)) (now (out .entry)) ⌝ }
 {
-    if words.len() == 0 {
-        end_row(pen.x, pen.size, thrown, out);
-        return;
-    }
-    let cell = place(words[0], pen);
-    let next = draw(cell, pen.background, thrown, font, view, out);
-    let kind = cell.kind;
-    let rest = &words[1..];
-    match kind {
-        Kind::End => {}
-        Kind::Return { size, spacing } => {
-            let y = below(cell.y, cell.size, spacing);
-            row_step(rest, font, view, y, size, pen.background, out)
+    let mut pen = start;
+    let mut thrown = false;
+    let mut i = 0;
+    while i < words.len() {
+        let cell = place(words[i], pen);
+        thrown = draw(cell, pen.background, thrown, font, view, out);
+        i += 1;
+        let kind = cell.kind;
+        match kind {
+            Kind::End => {
+                return;
+            }
+            Kind::Return { size, spacing } => {
+                let y = below(cell.y, cell.size, spacing);
+                row_step(&words[i..], font, view, y, size, pen.background, out);
+                return;
+            }
+            Kind::Space { background } => {
+                pen = right(pen, background);
+            }
+            Kind::Character { .. } => {
+                pen = right(pen, pen.background);
+            }
         }
-        Kind::Space { background } => cell_step(
-            rest,
-            font,
-            view,
-            right(pen, background),
-            next,
-            out,
-        ),
-        Kind::Character { .. } => cell_step(
-            rest,
-            font,
-            view,
-            right(pen, pen.background),
-            next,
-            out,
-        ),
     }
+    end_row(pen.x, pen.size, thrown, out);
 }
 
 // How many words a row takes, with its return, and what follows from them.
