@@ -146,3 +146,45 @@ hands-character font v k p cut colour code blink one lo hi =
     let last : j ≡ 12 = part-at 12 (p .size) (k - p .x .0) (omega arith) (omega arith) in
     shade-at font v code blink ((v .line .0 - p .y .0) / p .size) j one (row-within v p cut) (omega arith)
     ∙ ap (shadeSet (aboveRow font v code blink ((v .line .0 - p .y .0) / p .size)) false) last
+
+-- the walk past a row above the line: where its cells stand does not matter
+module _ (dots : Drawn) (v : View) (left : Dots) (k old : ℕ) where
+  abbrev Above : Pen → Type 0
+  Above p = p .y .0 + cellRows * p .size ≤ v .line .0
+
+  past-cell-above : (c : Cell) (cs : List Cell) → c .top .0 + cellRows * c .size ≤ v .line .0 → painted dots v false (c ∷ cs) k old ≡ painted dots v false cs k old
+  past-cell-above c cs above =
+      walk-past dots v k c cs false old (cell-above 12 18 (v .line .0) k (c .left .0) (c .top .0) (c .size) above) (throws-not dots v k c (λ r. omega arith))
+
+  abbrev Same : List Kind → Pen → Pen → Type 0
+  Same kinds p q = painted dots v false (cellsFrom left kinds p) k old ≡ painted dots v false (cellsFrom left kinds q) k old
+
+  abbrev pub moved : Pen → Dots → ℕ → Pen
+  moved p x back = record { x = x; y = p .y; size = p .size; background = back }
+
+  any-kind : (kd : Kind) (kinds : List Kind) (p : Pen) (x x′ : Dots) → Above p → ((y y′ : Dots) (back : ℕ) → Same kinds (moved p y back) (moved p y′ back)) → Same (kd ∷ kinds) (moved p x (p .background)) (moved p x′ (p .background))
+  unfolding cellsFrom kindCell afterWord
+  any-kind (Character colour code blink) kinds p x x′ above rest =
+      past-cell-above _ (cellsFrom left kinds (rightOf (moved p x (p .background)) (p .background))) above
+      ∙ rest _ _ (p .background)
+      ∙ sym (past-cell-above _ (cellsFrom left kinds (rightOf (moved p x′ (p .background)) (p .background))) above)
+  any-kind (Space own) kinds p x x′ above rest =
+      past-cell-above _ (cellsFrom left kinds (rightOf (moved p x (p .background)) own)) above
+      ∙ rest _ _ own
+      ∙ sym (past-cell-above _ (cellsFrom left kinds (rightOf (moved p x′ (p .background)) own)) above)
+  any-kind (Return next spacing) kinds p x x′ above rest = refl
+  any-kind End kinds p x x′ above rest = refl
+
+  anywhere : (kinds : List Kind) (p : Pen) (x x′ : Dots) (back : ℕ) → Above p → Same kinds (moved p x back) (moved p x′ back)
+  unfolding cellsFrom
+  anywhere [] p x x′ back above = refl
+  anywhere (kd ∷ kinds) p x x′ back above = any-kind kd kinds (record { x = x; y = p .y; size = p .size; background = back }) x x′ above (λ y y′ b. anywhere kinds p y y′ b above)
+
+  -- a word of such a row
+  pub passed-character : (colour code : ℕ) (blink : Bool) (kinds : List Kind) (p : Pen) → Above p → painted dots v false (cellsFrom left (Character colour code blink ∷ kinds) p) k old ≡ painted dots v false (cellsFrom left kinds p) k old
+  unfolding cellsFrom kindCell afterWord
+  passed-character colour code blink kinds p above = past-cell-above _ (cellsFrom left kinds (rightOf p (p .background))) above ∙ anywhere kinds p _ (p .x) (p .background) above
+
+  pub passed-space : (own : ℕ) (kinds : List Kind) (p : Pen) → Above p → painted dots v false (cellsFrom left (Space own ∷ kinds) p) k old ≡ painted dots v false (cellsFrom left kinds (moved p (p .x) own)) k old
+  unfolding cellsFrom kindCell afterWord
+  passed-space own kinds p above = past-cell-above _ (cellsFrom left kinds (rightOf p own)) above ∙ anywhere kinds p _ (p .x) own above

@@ -1,7 +1,7 @@
 -- What the painter's own steps do, for the contracts of its private functions: no part of the account. proofs/Walk.antt joins it to the
 -- account's list of cells.
 -- Assumes nothing.
-use Prim.Native.Nat.{ℕ, suc, _+_, _-_, _*_, _/_, _%_, _≤_, _<_}
+use Prim.Native.Nat.{ℕ, _+_, _-_, _*_, _/_, _%_, _≤_, _<_}
 use mathlib.Core.Path.{_≡_}
 use mathlib.Core.List.{List, [], _∷_}
 use mathlib.Core.Bool.{Bool, true, false}
@@ -23,9 +23,6 @@ use Rattle.stretch.specs.declared.Ink.{Ink}
 use Rattle.display.specs.declared.Pen.{Pen}
 use Rattle.display.specs.declared.View.{View}
 use Rattle.display.specs.declared.Placed.{Placed}
-use Rattle.display.specs.declared.RowEnd.{RowEnd}
-use Rattle.display.specs.declared.RowEnd.the-variants.{Over, Next}
-use Rattle.display.specs.Words.{kindOf}
 use Rattle.display.specs.Cells.{Cell, kindCell, cellsFrom}
 use Rattle.display.specs.Picture.{Drawn, has, throws, cellDot, steadyOr}
 
@@ -98,23 +95,6 @@ drawnIn dots v thrown p (c ∷ cs) k old = drawnDot dots v k (onFirst (p .x) (p 
 abbrev pub drawn : Drawn → View → Bool → Pen → Kind → ℕ → ℕ → ℕ
 drawn dots v thrown p kind = drawnIn dots v thrown p (kindCell (p .x) (p .y) (p .size) (p .background) kind)
 
--- where a row ends: one word further
-abbrev pub later : RowEnd → RowEnd
-later Over = Over
-later (Next read size spacing background) = Next (suc read) size spacing background
-
--- by the row's first word, and where the rest of the row ends after a space and after a character
-abbrev pub endAt : Kind → ℕ → (ℕ → RowEnd) → RowEnd
-endAt (Character colour code blink) back rest = later (rest back)
-endAt (Space own) back rest = later (rest own)
-endAt (Return size spacing) back rest = Next 1 size spacing back
-endAt End back rest = Over
-
--- how many words a row takes with its return, what the return says, and the background by then
-unfoldable pub rowEnd : List ℕ → ℕ → RowEnd
-rowEnd [] back = Over
-rowEnd (w ∷ ws) back = endAt (kindOf w) back (λ b. rowEnd ws b)
-
 -- the largest size of a row, and spacing; and a place that no word reaches
 abbrev pub mostSize : ℕ
 mostSize = 4
@@ -131,19 +111,6 @@ Sound (Character colour code blink) = (colour ≤ mostColour) × (code < fontCel
 Sound (Space own) = own ≤ mostColour
 Sound (Return size spacing) = (1 ≤ size) × ((size ≤ mostSize) × (spacing .0 ≤ mostSpacing))
 Sound End = Unit
-
--- what the end of a row says is in range, and its words are there
-pub record NextSound (n read next : ℕ) (gap : Lines) (back : ℕ) : Type 0 where
-  pub some : 1 ≤ read
-  pub there : read ≤ n
-  pub high : 1 ≤ next
-  pub size : next ≤ mostSize
-  pub spacing : gap .0 ≤ mostSpacing
-  pub colour : back ≤ mostColour
-
-abbrev pub EndSound : ℕ → RowEnd → Type 0
-EndSound n Over = Unit
-EndSound n (Next read size spacing background) = NextSound n read size spacing background
 
 -- what `paint_line` asks: words, a font, and settings that the painter's arithmetic takes
 pub record Usable (ws font : List ℕ) (s : Settings) : Type 0 where

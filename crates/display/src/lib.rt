@@ -6,13 +6,13 @@ ghost use lib.ListN.{length};
 ghost use Rattle.laws.specs.Lines.{overlay};
 ghost use Rattle.laws.specs.Lists.{tabulate};
 ghost use Rattle.font.specs.Font.{fontCells, fontRows, cellRows, cellColumns, fontDot};
-ghost use Rattle.judging.specs.Judging.{answerOf, said, mostColour};
+ghost use Rattle.judging.specs.Judging.{answerOf, said};
 ghost use Rattle.stretch.specs.Stretch.{stretched};
 ghost use Rattle.display.specs.Words.{kindOf, kindsOf};
 ghost use Rattle.display.specs.Cells.{placedAt, rightOf, belowRow, rowPen, cellsFrom};
 ghost use Rattle.display.specs.Picture.{steadyOr, dotAt};
 ghost use Rattle.display.specs.Painting.{viewOf, screenOf, leftBy};
-ghost use Rattle.display.specs.Steps.{painted, penAt, handed, drawn, blankRow, aboveAt, rowShown, inkOf, endOf, rowEnd, mostSize, mostSpacing, far, Sound, EndSound, Usable, RowAsks, CellAsks, DrawAsks};
+ghost use Rattle.display.specs.Steps.{painted, penAt, handed, drawn, blankRow, aboveAt, rowShown, inkOf, endOf, mostSize, mostSpacing, far, Sound, Usable, RowAsks, CellAsks, DrawAsks};
 use judging::Painted;
 use judging::Settings;
 use stretch::Ink;
@@ -59,17 +59,6 @@ pub struct View {
     line: Lines,
     mode: u32,
     lit: bool,
-}
-
-// Where a row ends: with the words, or at a return, after so many words.
-enum RowEnd {
-    Over,
-    Next {
-        read: usize,
-        size: usize,
-        spacing: Lines,
-        background: u8,
-    },
 }
 
 // The codes that are no characters.
@@ -128,50 +117,58 @@ fn paint_line(
     row_step(words, font, view, Lines(y), 1, start, out);
 }
 
-// A row of this size starts at line y with these words. A row above the line is passed over at once, and below the line nothing is left.
+// A row of this size starts at line `top` with these words. The words of rows above the line are passed over, the row that the line cuts goes to the cell step, and below the
+// line nothing is left.
 fn row_step(
     words: &[u16],
     font: &[u16],
     view: View,
-    y: Lines,
-    size: usize,
+    top: Lines,
+    height: usize,
     background: u8,
     out: &mut [u8],
 )
-    requires { ⌜ RowAsks (now font) view (rowPen (view .left) y size background) (length (now words)) ⌝ }
-    ensures { λ _. ⌜ now (out .exit) ≡ overlay (painted (fontDot (now (font .entry))) view false (cellsFrom (view .left) (kindsOf (now (words .entry))) (rowPen (view .left) y size background))) (now (out .entry)) ⌝ }
+    requires { ⌜ RowAsks (now font) view (rowPen (view .left) top height background) (length (now words)) ⌝ }
+    ensures { λ _. ⌜ now (out .exit) ≡ overlay (painted (fontDot (now (font .entry))) view false (cellsFrom (view .left) (kindsOf (now (words .entry))) (rowPen (view .left) top height background))) (now (out .entry)) ⌝ }
 {
     let line = view.line.0;
-    if line < y.0 {
-        return;
-    }
-    let end = y.0 + font::CELL_ROWS * size;
-    if line < end {
-        let left = view.left;
-        cell_step(
-            words,
-            font,
-            view,
-            Pen {
+    let mut y = top.0;
+    let mut size = height;
+    let mut back = background;
+    let mut i = 0;
+    while i < words.len() {
+        let end = y + font::CELL_ROWS * size;
+        if line < end {
+            if line < y {
+                return;
+            }
+            let left = view.left;
+            let pen = Pen {
                 x: left,
-                y: y,
+                y: Lines(y),
                 size: size,
-                background: background,
-            },
-            out,
-        );
-        return;
-    }
-    match row_end(words, background) {
-        RowEnd::Over => {}
-        RowEnd::Next {
-            read,
-            size: next,
-            spacing,
-            background: back,
-        } => {
-            let top = below(y, size, spacing);
-            row_step(&words[read..], font, view, top, next, back, out)
+                background: back,
+            };
+            cell_step(&words[i..], font, view, pen, out);
+            return;
+        }
+        let kind = decode(words[i]);
+        i += 1;
+        match kind {
+            Kind::End => {
+                return;
+            }
+            Kind::Return {
+                size: next,
+                spacing,
+            } => {
+                y = end + spacing.0;
+                size = next;
+            }
+            Kind::Space { background } => {
+                back = background;
+            }
+            Kind::Character { .. } => {}
         }
     }
 }
@@ -208,37 +205,6 @@ fn cell_step(words: &[u16], font: &[u16], view: View, start: Pen, out: &mut [u8]
         }
     }
     end_row(pen.x, pen.size, thrown, out);
-}
-
-// How many words a row takes, with its return, and what follows from them.
-fn row_end(words: &[u16], background: u8) -> RowEnd
-    requires { ⌜ background ≤ mostColour ⌝ }
-    ensures { λ r. ⌜ (r ≡ rowEnd (now (words .entry)) background) × EndSound (length (now (words .entry))) r ⌝ }
-{
-    let mut back = background;
-    let mut i = 0;
-    while i < words.len() {
-        let kind = decode(words[i]);
-        i += 1;
-        match kind {
-            Kind::End => {
-                return RowEnd::Over;
-            }
-            Kind::Return { size, spacing } => {
-                return RowEnd::Next {
-                    read: i,
-                    size: size,
-                    spacing: spacing,
-                    background: back,
-                };
-            }
-            Kind::Space { background: own } => {
-                back = own;
-            }
-            Kind::Character { .. } => {}
-        }
-    }
-    RowEnd::Over
 }
 
 // Where the next cell of the row stands, with the background from there on.
