@@ -115,10 +115,8 @@ draw-spec =
     enum-known-kind-2
     blank-requires
     lay-requires-2
-    enum-told
-    end-row-requires
-    enum-told-2
-    end-row-requires-2
+    enum-told end-row-requires
+    enum-told-2 end-row-requires-2
     same-length
     returns
     same-length-2
