@@ -285,7 +285,7 @@ void dirgeflint_port_write_character(dirgeflint_port *port, uint8_t byte);
  *
  * The shadow of mode 1 is as by a light at the upper left. Each lit dot of a character throws one, as large as itself, one dot of the font to
  * the right and one below: s dots and s lines away in a row of size s. A dot in it that no character lights is black, 8, whatever colours
- * spaces have. The shadow runs on into the next cell of the row, be it a character, dark or not, or a space; and past the row's last cell,
+ * spaces have. The shadow runs on into the next cell of the row, be it a character, blinked out or not, or a space; and past the row's last cell,
  * however the row ends, where it is s dots wide at most. It never falls below the bottom line of its own cell: so the lowest of a cell's 18
  * rows throws none, and nothing falls on the row of cells below. Spaces throw no shadow, nor do characters that are dark by blinking.
  *

@@ -13,7 +13,7 @@ use Rattle.laws.specs.Pick.{pick, both, either}
 use Rattle.laws.specs.Lines.{firstShown, anyOf}
 use Rattle.laws.specs.Placing.{spanHas, cellHas}
 use Rattle.laws.proofs.Both.{none-left, none-right, both-none, either-none, fails-unless}
-use Rattle.laws.proofs.Holders.{first-of-none, first-same}
+use Rattle.laws.proofs.Holders.{first-of-none, first-alike-shown}
 use Rattle.laws.proofs.Placing.{span-in, span-has, span-before, cell-above, cell-in-row, past-cell, part-at}
 use Rattle.laws.proofs.Scan.{split}
 use Rattle.font.specs.Font.{cellRows, bitSet, fontDot}
@@ -37,7 +37,7 @@ module _ (dots : Drawn) (v : View) (k : ℕ) where
 
   painted-plain : (cs : List Cell) (old : ℕ) (s t : Bool) → eqb (v .mode) 1 ≡ false → paintedIn dots v cs k old s ≡ paintedIn dots v cs k old t
   painted-plain cs old s t other =
-      first-same (has v k) (cellDot dots v s k) (cellDot dots v t k) cs (fallen v s old) (λ c. dot-plain dots v s k c other ∙ sym (dot-plain dots v t k c other))
+      first-alike-shown (has v k) (cellDot dots v s k) (cellDot dots v t k) cs (fallen v s old) (λ c. dot-plain dots v s k c other ∙ sym (dot-plain dots v t k c other))
       ∙ ap (firstShown (has v k) (cellDot dots v t k) cs) (fallen-plain s old other ∙ sym (fallen-plain t old other))
 
   -- cells that have nothing to do with the dot

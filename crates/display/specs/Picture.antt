@@ -35,9 +35,9 @@ rowIn v c = (v .line .0 - c .top .0) / c .size
 abbrev pub columnIn : ℕ → Cell → ℕ
 columnIn k c = (k - c .left .0) / c .size
 
--- whether a cell throws its shadow on dot k of the line: where the dot of its character one row above and one column to the left is lit. The shadow falls on the rows
--- after the cell's first, and so not on the line below its last; and on the columns after its first, of which the last is next to the cell: the first
--- column of the cell after it, or of what comes after the row.
+-- whether a cell throws its shadow on dot k of the line: where the dot of its character one row above and one column to the left is lit. It falls on the cell's rows but the
+-- first, 1 to 17: nothing falls on row 0, and nothing below the cell. It falls on columns 1 to 12: column 12 lies beside the cell, and is the first column of the next cell of
+-- the row, or of what comes after the row.
 unfoldable pub shadowOf : Drawn → View → ℕ → Cell → Shown → Bool
 shadowOf dots v k c (character colour code blink) =
     both (spanHas 1 (cellRows - 1) (rowIn v c)) (both (spanHas 1 cellColumns (columnIn k c)) (litAt dots v code blink (rowIn v c - 1) (columnIn k c - 1)))

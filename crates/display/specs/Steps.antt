@@ -30,10 +30,11 @@ use Rattle.display.specs.Picture.{Drawn, has, throws, cellDot, steadyOr}
 abbrev pub fallen : View → Bool → ℕ → ℕ
 fallen v shaded old = pick (both (eqb (v .mode) 1) shaded) (inColour black) old
 
--- dot k after these cells were painted over the line; `before` tells whether a cell before them throws its shadow on the dot
+-- dot k after these cells were painted over the line, where a shadow falls on it or none does
 abbrev pub paintedIn : Drawn → View → List Cell → ℕ → ℕ → Bool → ℕ
 paintedIn dots v cs k old shaded = firstShown (has v k) (cellDot dots v shaded k) cs (fallen v shaded old)
 
+-- the same; `before` tells whether a cell before these throws its shadow on the dot
 abbrev pub painted : Drawn → View → Bool → List Cell → ℕ → ℕ → ℕ
 painted dots v before cs k old = paintedIn dots v cs k old (either before (anyOf (throws dots v k) cs))
 
@@ -53,7 +54,7 @@ blankRow thrown = record { bits = 0; above = 0; before = thrown }
 abbrev pub shownRow : List ℕ → View → ℕ → Bool → ℕ → ℕ
 shownRow font v code blink l = pick (steadyOr blink (v .lit)) (rowOf font code l) 0
 
--- the bits of the row above row l, which stands at this place of the font: in mode 1, and below a first row
+-- the bits of the row above row l, which stands at this place of the font: none in other modes than 1, and none above row 0
 abbrev pub aboveAt : List ℕ → ℕ → ℕ → ℕ → ℕ
 aboveAt font mode at l = pick (eqb mode 1) (pick (ltb 0 l) (getD font (at - 1) 0) 0) 0
 

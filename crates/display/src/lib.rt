@@ -336,7 +336,7 @@ fn lay(x: Dots, size: usize, row: Row, mode: u32, on: u8, background: u8, out: &
     stretch::stretch(out, x, size as u8, row, ink);
 }
 
-// What a row's last cell throws falls on the first column after it.
+// What a row's last cell throws falls on the first column after it. Only in mode 1 is anything thrown.
 fn end_row(x: Dots, size: usize, thrown: bool, out: &mut [u8])
     requires { ⌜ size ≤ mostSize ⌝ }
     ensures { λ _. ⌜ now (out .exit) ≡ overlay (endOf x size thrown) (now (out .entry)) ⌝ }
@@ -374,7 +374,7 @@ fn blank(thrown: bool) -> Row
     }
 }
 
-// The row above row l, which stands at this place of the font: in mode 1, where it throws the shadow, and below a first row.
+// The row above row l, which stands at this place of the font and throws the shadow: none in other modes than 1, and none above row 0.
 fn row_above(font: &[u16], mode: u32, at: usize, l: usize) -> u16
     requires { ⌜ (at < length (now font)) × (l ≤ at) ⌝ }
     ensures { λ r. ⌜ r ≡ aboveAt (now (font .entry)) mode at l ⌝ }

@@ -29,7 +29,7 @@ module _ {A : Type 0} (has : A → Bool) where
       go false rest e = omega (arith, rest e)
 
   -- each shows the same
-  pub first-same : (shows shows′ : A → ℕ) (cs : List A) (other : ℕ) → ((c : A) → shows c ≡ shows′ c) → firstShown has shows cs other ≡ firstShown has shows′ cs other
+  pub first-alike-shown : (shows shows′ : A → ℕ) (cs : List A) (other : ℕ) → ((c : A) → shows c ≡ shows′ c) → firstShown has shows cs other ≡ firstShown has shows′ cs other
   unfolding firstShown
-  first-same shows shows′ [] other same = refl
-  first-same shows shows′ (c ∷ cs) other same = rw (same c, first-same shows shows′ cs other same)
+  first-alike-shown shows shows′ [] other same = refl
+  first-alike-shown shows shows′ (c ∷ cs) other same = rw (same c, first-alike-shown shows shows′ cs other same)

@@ -9,7 +9,7 @@ use Rattle.laws.specs.Pick.{pick, both}
 abbrev pub rowHas : ℕ → ℕ → ℕ → ℕ → Bool
 rowHas height y size line = both (leb y line) (ltb line (y + height * size))
 
--- n dots from x on have dot k
+-- n places from x on, dots or lines or columns, have place k
 abbrev pub spanHas : ℕ → ℕ → ℕ → Bool
 spanHas x n k = both (leb x k) (ltb k (x + n))
 

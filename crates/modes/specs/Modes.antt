@@ -12,6 +12,7 @@ video = 0
 abbrev pub inColour : ℕ → ℕ
 inColour colour = 8 + colour
 
+-- the colour black
 abbrev pub black : ℕ
 black = 0
 

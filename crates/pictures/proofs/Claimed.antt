@@ -12,8 +12,9 @@ use lib.Dec.{eqb}
 use Rattle.laws.specs.Pick.{pick, both, either}
 use Rattle.laws.specs.Lines.{firstShown, anyOf}
 use Rattle.laws.proofs.Both.{both-none, either-none, fails-unless}
-use Rattle.laws.proofs.Holders.{first-of-none, first-same}
-use Rattle.laws.proofs.Placing.{cell-has, cell-below, cell-beside, cell-above}
+use Rattle.laws.proofs.Holders.{first-of-none, first-alike-shown}
+use Rattle.laws.proofs.Placing.{span-in, cell-has, cell-in-row, cell-below, cell-beside, cell-above}
+use Rattle.laws.proofs.Scan.{split}
 use Rattle.font.specs.Font.{cellRows, cellColumns}
 use Rattle.modes.specs.Modes.{groundByte}
 use Rattle.units.specs.declared.Dots.{Dots}
@@ -24,8 +25,9 @@ use Rattle.display.specs.declared.View.{View}
 use Rattle.display.specs.declared.Pen.{Pen}
 use Rattle.display.specs.Cells.{Cell, Shown, character, space, kindCell, rightOf, belowRow, rowPen, afterWord, goesOn, cellsFrom}
 use Rattle.display.specs.Picture.{Drawn, litAt, rowIn, columnIn, has, shadowOf, throws, shownDot, cellDot, shadedDot, dotAt}
-use Rattle.display.proofs.Shadow.{Reached, reach, throws-not, ground-plain, dot-plain}
-use Rattle.pictures.specs.Claims.{OnTwoCells, OnFirstCell, InOneRow, OnOneOutside, AsBefore, inMode, OverMode0}
+use Rattle.display.proofs.Shadow as shadow
+use Rattle.display.proofs.Shadow.{Reached, throws-not, ground-plain, dot-plain}
+use Rattle.pictures.specs.Claims.{Reach, OnTwoCells, OnFirstCell, OnRowsFirst, OnOneOutside, AfterLast, OnNoneOutside, NoShadowElsewhere, inMode, OverMode0}
 
 -- each of a list
 EachOf : (Cell → Type 0) → List Cell → Type 0
@@ -181,18 +183,81 @@ on-first-cell dots v start k left kinds p c after are here =
     ap (λ (cs : List Cell). dotAt dots v start cs k) are
     ∙ ends-first dots v start k c after here (none dots v start k (throws dots v k) (After c) (later-throws dots v start k c here) after (s .0))
 
-pub in-one-row : InOneRow
-in-one-row dots v k left kinds p before b c after are here thrown =
-    let i = at dots v 0 k c here in
-    let r = reach dots v k b thrown in
-    ⊎-elim (λ (below : b .top .0 + 18 * b .size ≤ c .top .0). absurd (omega arith)) (λ beside. (sym (beside .0), sym (beside .1 .0)))
-    (next-after before b c after (subst Sorted are (sorted left kinds p)))
+pub reach : Reach
+reach dots v k c thrown = let r = shadow.reach dots v k c thrown in ((r .down, r .bottom), (r .across, r .end))
+
+pub on-rows-first : OnRowsFirst
+unfolding dotAt firstShown anyOf
+on-rows-first dots v start k left kinds p before b c after are here other =
+    let i = at dots v start k c here in
+    let follows = next-after before b c after (subst Sorted are (sorted left kinds p)) in
+    let above : b .top .0 + 18 * b .size ≤ c .top .0 = ⊎-elim (λ (below : b .top .0 + 18 * b .size ≤ c .top .0). below) (λ beside. absurd (other (sym (beside .0)))) follows in
+    on-two-cells dots v start k left kinds p before b c after are here
+    ∙ skip dots v start k b (c ∷ []) (cell-above 12 18 (v .line .0) k (b .left .0) (b .top .0) (b .size) (omega arith)) (throws-not dots v k b (λ r. omega arith))
+
+-- the first of a list of cells stands at the pen, or in a row below
+FirstAt : Pen → List Cell → Type 0
+FirstAt p [] = Unit
+FirstAt p (c ∷ cs) = (p .y .0 + cellRows * p .size ≤ c .top .0) ⊎ ((c .top ≡ p .y) × ((c .size ≡ p .size) × (c .left ≡ p .x)))
+
+-- each cell is next to the one before it, or in a row below
+Chained : List Cell → Type 0
+Chained [] = Unit
+Chained (b ∷ cs) = FirstAt (record { x = record { 0 = b .left .0 + cellColumns * b .size }; y = b .top; size = b .size; background = b .background }) cs × Chained cs
+
+module _ (left : Dots) where
+  first-below : (p : Pen) (next back : ℕ) (spacing : Lines) (cs : List Cell) → FirstAt (rowPen left (belowRow (p .y) (p .size) spacing) next back) cs → FirstAt p cs
+  unfolding FirstAt
+  first-below p next back spacing [] h = tt
+  first-below p next back spacing (c ∷ cs) h = ⊎-elim (λ below. inl (omega arith)) (λ at. let e = ap (λ (t : Lines). t .0) (at .0) in inl (omega arith)) h
+
+  first-kind : (kd : Kind) (kinds : List Kind) (p : Pen) → ((next : Pen) → FirstAt next (cellsFrom left kinds next))
+      → FirstAt p (kindCell (p .x) (p .y) (p .size) (p .background) kd ++ pick (goesOn kd) (cellsFrom left kinds (afterWord left kd p)) [])
+  unfolding FirstAt kindCell afterWord
+  first-kind (Character colour code blink) kinds p rest = inr (refl, (refl, refl))
+  first-kind (Space own) kinds p rest = inr (refl, (refl, refl))
+  first-kind (Return size spacing) kinds p rest =
+      let next = rowPen left (belowRow (p .y) (p .size) spacing) size (p .background) in first-below p size (p .background) spacing (cellsFrom left kinds next) (rest next)
+  first-kind End kinds p rest = tt
+
+  first-at : (kinds : List Kind) (p : Pen) → FirstAt p (cellsFrom left kinds p)
+  unfolding FirstAt cellsFrom
+  first-at [] p = tt
+  first-at (kd ∷ kinds) p = first-kind kd kinds p (λ next. first-at kinds next)
+
+  chained-kind : (kd : Kind) (kinds : List Kind) (p : Pen) → ((next : Pen) → Chained (cellsFrom left kinds next))
+      → Chained (kindCell (p .x) (p .y) (p .size) (p .background) kd ++ pick (goesOn kd) (cellsFrom left kinds (afterWord left kd p)) [])
+  unfolding Chained FirstAt kindCell afterWord
+  chained-kind (Character colour code blink) kinds p rest = let next = rightOf p (p .background) in (first-at kinds next, rest next)
+  chained-kind (Space own) kinds p rest = let next = rightOf p own in (first-at kinds next, rest next)
+  chained-kind (Return size spacing) kinds p rest = rest (rowPen left (belowRow (p .y) (p .size) spacing) size (p .background))
+  chained-kind End kinds p rest = tt
+
+  chained : (kinds : List Kind) (p : Pen) → Chained (cellsFrom left kinds p)
+  unfolding Chained cellsFrom
+  chained [] p = tt
+  chained (kd ∷ kinds) p = chained-kind kd kinds p (λ next. chained kinds next)
+
+next-to : (before : List Cell) (b c : Cell) (after : List Cell) → Chained (before ++ (b ∷ c ∷ after))
+    → (b .top .0 + cellRows * b .size ≤ c .top .0) ⊎ ((c .top ≡ b .top) × ((c .size ≡ b .size) × (c .left ≡ record { 0 = b .left .0 + cellColumns * b .size })))
+unfolding Chained FirstAt
+next-to [] b c after s = s .0
+next-to (x ∷ before) b c after s = next-to before b c after (s .1)
 
 -- one of a list passes a test, or none does
 any-there : (test : Cell → Bool) (before : List Cell) (b : Cell) (after : List Cell) → test b ≡ true → anyOf test (before ++ (b ∷ after)) ≡ true
 unfolding anyOf
 any-there test [] b after e = rw e
 any-there test (x ∷ before) b after e = rw (any-there test before b after e) (go (test x))
+  where
+    go : (t : Bool) → either t true ≡ true
+    go true = refl
+    go false = refl
+
+any-next : (test : Cell → Bool) (before : List Cell) (b c : Cell) (after : List Cell) → test c ≡ true → anyOf test (before ++ (b ∷ c ∷ after)) ≡ true
+unfolding anyOf
+any-next test [] b c after e = any-there test (b ∷ []) c after e
+any-next test (x ∷ before) b c after e = rw (any-next test before b c after e) (go (test x))
   where
     go : (t : Bool) → either t true ≡ true
     go true = refl
@@ -206,12 +271,35 @@ on-one-outside dots v start k before b after outside thrown =
     ∙ first-of-none (has v k) (cellDot dots v true k) (before ++ (b ∷ after)) (groundByte (v .mode) false true start) outside
     ∙ sym (rw (away, thrown))
 
-pub as-before : AsBefore
+pub after-last : AfterLast
+after-last dots v k left kinds p before b c after are outside thrown same =
+    let r = shadow.reach dots v k b thrown in
+    let none : anyOf (has v k) (before ++ (b ∷ c ∷ after)) ≡ false = ap (anyOf (has v k)) (sym are) ∙ outside in
+    let away : has v k b ≡ true → ⊥ = λ e. false≢true (sym none ∙ any-there (has v k) before b (c ∷ after) e) in
+    let away′ : has v k c ≡ true → ⊥ = λ e. false≢true (sym none ∙ any-next (has v k) before b c after e) in
+    let et = ap (λ (t : Lines). t .0) same in
+    ⊎-elim
+    (λ (below : b .top .0 + 18 * b .size ≤ c .top .0). absurd (omega arith))
+    (λ beside.
+    let s = beside .1 .0 in
+    let ex = ap (λ (d : Dots). d .0) (beside .1 .1) in
+    ⊎-elim
+    (λ (right : b .left .0 + 12 * b .size ≤ k). away′ (cell-in-row 12 18 (v .line .0) k (c .left .0) (c .top .0) (c .size) (omega arith) (omega arith) ∙ span-in (c .left .0) (12 * c .size) k (omega arith) (omega arith)))
+    (λ (within : k < b .left .0 + 12 * b .size). away (cell-in-row 12 18 (v .line .0) k (b .left .0) (b .top .0) (b .size) (omega arith) (omega arith) ∙ span-in (b .left .0) (12 * b .size) k (omega arith) within))
+    (split (b .left .0 + 12 * b .size) k))
+    (next-to before b c after (subst Chained are (chained left kinds p)))
+
+pub on-none-outside : OnNoneOutside
+unfolding dotAt firstShown anyOf
+on-none-outside dots v start k cs outside dark =
+    ap (shadedDot dots v start cs k) dark ∙ first-of-none (has v k) (cellDot dots v false k) cs (groundByte (v .mode) false false start) outside
+
+pub no-shadow-elsewhere : NoShadowElsewhere
 unfolding dotAt
-as-before dots v start cs k other =
+no-shadow-elsewhere dots v start cs k other =
     let shaded = anyOf (throws dots v k) cs in
     let plain = ne-eqb (v .mode) 1 other in
-    first-same (has v k) (cellDot dots v shaded k) (cellDot dots v false k) cs (groundByte (v .mode) false shaded start) (λ c. dot-plain dots v shaded k c plain)
+    first-alike-shown (has v k) (cellDot dots v shaded k) (cellDot dots v false k) cs (groundByte (v .mode) false shaded start) (λ c. dot-plain dots v shaded k c plain)
     ∙ ap (firstShown (has v k) (cellDot dots v false k) cs) (ground-plain (v .mode) false shaded start plain)
 
 module _ (dots : Drawn) (left : Dots) (line : Lines) (lit : Bool) (k : ℕ) (shaded other : Bool) where

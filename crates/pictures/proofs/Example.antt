@@ -11,7 +11,7 @@ use Rattle.judging.specs.Judging.{answerOf}
 use Rattle.display.specs.Cells.{kindCell, afterWord, cellsFrom}
 use Rattle.display.specs.Picture.{shadowOf, shownDot, dotAt}
 use Rattle.display.specs.Painting.{dotOf, leftBy}
-use Rattle.pictures.specs.Example.{Example, ShadowExample}
+use Rattle.pictures.specs.Example.{Example, ShadowExample, BlinkExample}
 
 pub example : Example
 unfolding kindOf kindsOf leftBy dotOf dotAt firstShown cellHas cellsFrom kindCell afterWord shadowOf anyOf shownDot tabulate answerOf within isFont
@@ -20,3 +20,7 @@ example = (refl, (refl, (refl, refl)))
 pub shadow-example : ShadowExample
 unfolding kindOf kindsOf leftBy dotOf dotAt firstShown cellHas cellsFrom kindCell afterWord shadowOf anyOf shownDot tabulate answerOf within isFont
 shadow-example = (refl, (refl, (refl, (refl, refl))))
+
+pub blink-example : BlinkExample
+unfolding kindOf kindsOf leftBy dotOf dotAt firstShown cellHas cellsFrom kindCell afterWord shadowOf anyOf shownDot tabulate answerOf within isFont
+blink-example = (refl, (refl, refl))

@@ -1,5 +1,5 @@
--- Painted lines worked through. Document 01's: words 14 and 1009, cell 0 row 0 = 2049, starting colour 1, h = v = 0. And one with a shadow (M-101) of the same font and
--- settings: a return to size 2, the character, a space, the character, an end.
+-- Painted lines worked through. Document 01's: words 14 and 1009, cell 0 row 0 = 2049, starting colour 1, h = v = 0. And two with a shadow (M-101) of the same settings: at
+-- size 2 the character, a space, the character, an end; and at size 1 a character that blinks, between two that do not.
 -- Assumes nothing.
 use mathlib.Core.Path.{_≡_}
 use mathlib.Core.Bool.{true}
@@ -22,8 +22,11 @@ abbrev pub font : List ℕ
 font = 2049 ∷ replicate 1115 0
 
 -- what a call leaves, of all bytes 7, two of which lie past the width
+abbrev pub bytesIn : List ℕ → List ℕ → ℕ → ℕ → ℕ → ℕ → List ℕ
+bytesIn rows screen frame width mode line = leftBy screen rows (settings mode) frame (record { 0 = line }) (record { 0 = width }) (replicate width 7 ++ 7 ∷ 7 ∷ [])
+
 abbrev pub bytes : List ℕ → ℕ → ℕ → ℕ → List ℕ
-bytes screen width mode line = leftBy screen font (settings mode) 0 (record { 0 = line }) (record { 0 = width }) (replicate width 7 ++ 7 ∷ 7 ∷ [])
+bytes screen = bytesIn font screen 0
 
 abbrev pub Example : Type 0
 Example =
@@ -36,7 +39,7 @@ Example =
 abbrev pub run : ℕ → ℕ → List ℕ → List ℕ
 run n byte rest = replicate n byte ++ rest
 
--- In mode 1 lines 18 and 19 have the lit dots, and lines 20 and 21 their shadow, two dots further right: within the first character's cell, on the space after it, within
+-- In mode 1 line 19 has the lit dots, as line 18 has, and lines 20 and 21 their shadow, two dots further right: within the first character's cell, on the space after it, within
 -- the second character's cell, and after that, where the row is over. Line 22 has neither. In mode 0 there is no shadow.
 abbrev pub ShadowExample : Type 0
 ShadowExample =
@@ -45,3 +48,20 @@ ShadowExample =
     × ((bytes shadowed 76 1 21 ≡ bytes shadowed 76 1 20)
     × ((bytes shadowed 76 1 22 ≡ run 76 0 (7 ∷ 7 ∷ []))
     × (bytes shadowed 76 0 20 ≡ run 76 0 (7 ∷ 7 ∷ [])))))
+
+-- a font whose character 0 has the dots at both ends of rows 16 and 17, and three of it in a row, the middle one blinking
+abbrev pub low : List ℕ
+low = replicate 16 0 ++ 2049 ∷ 2049 ∷ replicate 1098 0
+
+abbrev pub blinking : List ℕ
+blinking = 14 ∷ 15 ∷ 14 ∷ 1009 ∷ replicate 60 0
+
+-- Line 17, the last of the cells, in mode 1. In frame 0 all three are lit, and row 16 throws their shadows: the first column of the second and third character and what comes after
+-- the row have one, but the lit dots there are not covered. In frame 12 the one in the middle is out: it has no dot and throws no shadow, on itself or on the third character;
+-- that of the first falls on it. Line 18, below the cells, has nothing, though row 17 is lit.
+abbrev pub BlinkExample : Type 0
+BlinkExample =
+    (bytesIn low blinking 0 38 1 17
+    ≡ run 1 15 (run 1 8 (run 9 0 (run 2 15 (run 1 8 (run 9 0 (run 2 15 (run 1 8 (run 9 0 (run 1 15 (run 1 8 (run 1 0 (7 ∷ 7 ∷ [])))))))))))))
+    × ((bytesIn low blinking 12 38 1 17 ≡ run 1 15 (run 1 8 (run 9 0 (run 1 15 (run 1 8 (run 11 0 (run 1 15 (run 1 8 (run 9 0 (run 1 15 (run 1 8 (run 1 0 (7 ∷ 7 ∷ [])))))))))))))
+    × (bytesIn low blinking 0 38 1 18 ≡ run 38 0 (7 ∷ 7 ∷ [])))

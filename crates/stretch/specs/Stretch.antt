@@ -1,4 +1,5 @@
--- What a cell's row of bits is, laid over dots: the columns from the left, each as many dots wide as the size says; and the shadow that falls on them (M-101).
+-- What a cell's row of bits is, laid over dots: the columns from the left, each as many dots wide as the size says, and a shadow on them. Where shadows fall on a screen is said
+-- by `Picture` of crate display; here it is how a row of bits lays them.
 -- Assumes nothing.
 use Prim.Native.Nat.{ℕ, _-_, _/_}
 use mathlib.Core.Bool.{Bool}
