@@ -353,8 +353,9 @@ fn row_shown(font: &[u16], view: View, code: usize, blink: bool, l: usize, throw
 {
     if shows(blink, view.lit) {
         let at = font::CELL_ROWS * code + l;
+        let bits = font[at];
         Row {
-            bits: font[at],
+            bits: bits,
             above: row_above(font, view.mode, at, l),
             before: thrown,
         }

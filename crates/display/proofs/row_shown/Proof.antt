@@ -20,11 +20,11 @@ mul-at c = omega arith
 add-at : tie.Need-add-at
 add-at c = omega arith
 
-mul-t10 : tie.Need-mul-t10
-mul-t10 c = omega arith
+mul-bits : tie.Need-mul-bits
+mul-bits c = omega arith
 
-shared-slice-read-t12 : tie.Need-shared-slice-read-t12
-shared-slice-read-t12 c = omega arith
+shared-slice-read-bits : tie.Need-shared-slice-read-bits
+shared-slice-read-bits c = omega arith
 
 row-above-requires : tie.Need-row-above-requires
 row-above-requires c κs = (omega arith, omega arith)
@@ -49,4 +49,4 @@ returns-2 c =
     simp out empty
 
 pub row-shown-spec : {M : Type 1} → statement M
-row-shown-spec = tie.close (tie.spec shows-requires mul-at add-at mul-t10 shared-slice-read-t12 row-above-requires blank-requires returns returns-2)
+row-shown-spec = tie.close (tie.spec shows-requires mul-at add-at mul-bits shared-slice-read-bits row-above-requires blank-requires returns returns-2)
