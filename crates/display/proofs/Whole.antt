@@ -23,7 +23,7 @@ use Rattle.judging.specs.declared.Settings.{Settings}
 use Rattle.judging.specs.declared.Painted.{Painted}
 use Rattle.judging.specs.declared.Painted.the-variants.{Done}
 use Rattle.judging.specs.Judging.{answerOf, said}
-use Rattle.judging.proofs.Accepted.{accepted-done, done-is, not-done}
+use Rattle.judging.proofs.Accepted.{accepted-done, done-is, refusals, not-done}
 use Rattle.judging.proofs.Painted.{the-type}
 use Rattle.display.specs.declared.View.{View}
 use Rattle.display.specs.Words.{kindsOf}
@@ -72,7 +72,7 @@ module _ (words font : List ℕ) (s : Settings) (line : Lines) (width : Dots) (o
       record { words = acc .words64; rows = acc .rows; colour = acc .colour; h = acc .h; v = acc .v; ratio = acc .ratio; frequency = acc .frequency }
 
 module _ (words font : List ℕ) (s : Settings) (frame : ℕ) (line : Lines) (width : Dots) (out : List ℕ) (r : Painted) (e : said r ≡ answerOf words font s line width (length out)) where
-  pub refused-leaves : OneOf (1 ∷ 2 ∷ 3 ∷ 4 ∷ 5 ∷ 6 ∷ []) (tagOf the-type r) → out ≡ leftBy words font s frame line width out
+  pub refused-leaves : OneOf refusals (tagOf the-type r) → out ≡ leftBy words font s frame line width out
   unfolding leftBy
   refused-leaves other =
       simp (ne-eqb (answerOf words font s line width (length out) .number) 0 (λ z. not-done r other (ap (λ (a : Said). a .number) e ∙ z)))

@@ -1,4 +1,4 @@
--- A list's numbers one by one: it is within a bound where each of them is; and they are those of four parts, and what is left.
+-- A list's numbers one by one: it is within a bound where each of them is; they are those of four parts, and what is left; and a font's two tests.
 -- Assumes nothing.
 use Prim.Native.Nat.{ℕ, zero, suc, _+_, _-_, _*_, _<_, _≤_}
 use mathlib.Core.Path.{_≡_, refl, ap}
@@ -8,10 +8,11 @@ use native.Mathlib.Decide.{decLt}
 use native.Mathlib.Omega.{arith}
 use borrow.Author.Count.{below-more}
 use borrow.Author.Tests.{le-leb, leb-true}
-use lib.Dec.{leb}
+use lib.Dec.{leb, eqb}
 use lib.ListN.{length, getD}
 use Rattle.laws.specs.Within.{within}
 use Rattle.laws.proofs.Both.{both-parts}
+use Rattle.font.specs.Font.{fontRows, mostRow, isFont}
 
 pub within-at : (most : ℕ) (l : List ℕ) → within most l ≡ true → (k : ℕ) → getD l k 0 ≤ most
 unfolding within
@@ -23,6 +24,11 @@ pub within-each : (most : ℕ) (l : List ℕ) → ((k : ℕ) → k < length l �
 unfolding within
 within-each most [] h = refl
 within-each most (a ∷ l) h = rw (le-leb a most (h 0 (omega arith))) (within-each most l (λ k g. h (suc k) (omega arith)))
+
+-- what a font is, test by test
+pub font-tests : (rows : List ℕ) → isFont rows ≡ true → (eqb (length rows) fontRows ≡ true) × (within mostRow rows ≡ true)
+unfolding isFont
+font-tests rows e = both-parts (eqb (length rows) fontRows) (within mostRow rows) e
 
 -- the first i numbers of each part are within the bound
 pub record Parts (most : ℕ) (s : List ℕ) (part i : ℕ) : Type 0 where

@@ -1,9 +1,8 @@
-// What a font is: 62 cells of 18 rows of 12 bits, and the tests of rows that painter and writer share.
+// The sizes of a font, 62 cells of 18 rows of 12 bits, and the tests of rows that painter, writer and packer share.
 ghost use mathlib.Core.Path.{_≡_};
 ghost use mathlib.Core.Bool.{true};
 ghost use Prim.Native.Nat.{ℕ, _≤_};
-ghost use Rattle.laws.specs.Within.{within};
-ghost use Rattle.font.specs.Font.{isFont};
+ghost use Rattle.laws.specs.Within.{within, firstAbove};
 
 // The columns and rows of a cell, the cells and rows of a font, and the largest row.
 pub const CELL_COLUMNS: usize = 12;
@@ -16,33 +15,29 @@ pub const FONT_ROWS: usize = FONT_CELLS * CELL_ROWS;
 
 pub const MOST_ROW: u16 = 4095;
 
-// Whether these rows are a font.
-pub fn is_font(rows: &[u16]) -> bool
-    ensures { λ r. ⌜ r ≡ isFont (now (rows .entry)) ⌝ }
-{
-    if rows.len() != FONT_ROWS {
-        return false;
-    }
-    all_within(rows, MOST_ROW)
-}
-
 // Whether no number is above the given one.
 pub fn all_within(numbers: &[u16], most: u16) -> bool
     ensures { λ r. ⌜ r ≡ within most (now (numbers .entry)) ⌝ }
 {
+    first_above(numbers, most) == numbers.len()
+}
+
+// The index of the first number above the given one, or how many numbers there are where none is. It is looked for one by one only where the bits
+// of all together do not settle it.
+pub fn first_above(numbers: &[u16], most: u16) -> usize
+    ensures { λ r. ⌜ r ≡ firstAbove most (now (numbers .entry)) ⌝ }
+{
     if all_bits(numbers) <= most {
-        return true;
+        return numbers.len();
     }
-    let mut top: u16 = 0;
     let mut i = 0;
     while i < numbers.len() {
-        let number = numbers[i];
-        if top < number {
-            top = number;
+        if most < numbers[i] {
+            return i;
         }
         i += 1;
     }
-    top <= most
+    i
 }
 
 // The bits of all numbers together, which are at least each of them: for a bound of so many bits they decide. Four parts are looked at at once, so that

@@ -3,10 +3,9 @@
 use mathlib.Core.Path.{_≡_, refl, sym, ap, _∙_}
 use mathlib.Core.Bool.{Bool, true, false, not}
 use mathlib.Core.List.{List, [], _∷_}
-use mathlib.Core.Logic.{⊎-elim}
 use Prim.Native.Nat.{ℕ, suc, _<_, _≤_}
 use native.Mathlib.Omega.{arith}
-use types.Run.{OneOf}
+use types.Run.{OneOf, miss}
 use denote.Enum.Declared.{tagOf}
 use borrow.Author.Tests.{le-leb, lt-leb, leb-true, ltb-false, eqb-true, eqb-false, not-false}
 use lib.Dec.{leb, ltb, eqb}
@@ -14,12 +13,13 @@ use lib.ListN.{length}
 use Rattle.laws.specs.Pick.{pick}
 use Rattle.laws.specs.Said.{Said, accepted, refused}
 use Rattle.laws.proofs.Both.{both-parts, both-none}
-use Rattle.font.specs.Font.{fontRows, isFont}
+use Rattle.laws.specs.Within.{within, firstAbove}
+use Rattle.font.specs.Font.{fontRows, mostRow}
 use Rattle.units.specs.declared.Dots.{Dots}
 use Rattle.units.specs.declared.Lines.{Lines}
 use Rattle.judging.specs.declared.Settings.{Settings}
 use Rattle.judging.specs.declared.Painted.{Painted}
-use Rattle.judging.specs.declared.Painted.the-variants.{Done, BadSetting, ReservedRatio, BadWords, BadFont, OffScreen, NoRoom}
+use Rattle.judging.specs.declared.Painted.the-variants.{Done, BadSetting, ReservedRatio, BadWords, FontLength, BadRow, OffScreen, NoRoom}
 use Rattle.judging.specs.Judging.{wordCount, inRange, areWords, onScreen, answerOf, said}
 use Rattle.judging.proofs.Painted.{the-type}
 
@@ -54,20 +54,21 @@ pub record Accepted (words font : List ℕ) (s : Settings) (width : Dots) (room 
   pub fits : width .0 ≤ room
 
 -- an answer that accepts was not refused by the first test
-peel : (t : Bool) (k : ℕ) (rest : Said) → pick t (refused (suc k) 0) rest ≡ accepted 0 → (t ≡ false) × (rest ≡ accepted 0)
-peel true k rest e = let z = ap (λ (a : Said). a .number) e in absurd (omega arith)
-peel false k rest e = (refl, e)
+peel : (t : Bool) (k place : ℕ) (rest : Said) → pick t (refused (suc k) place) rest ≡ accepted 0 → (t ≡ false) × (rest ≡ accepted 0)
+peel true k place rest e = let z = ap (λ (a : Said). a .number) e in absurd (omega arith)
+peel false k place rest e = (refl, e)
 
 accepted-by : (words font : List ℕ) (s : Settings) (line : Lines) (width : Dots) (room : ℕ) → answerOf words font s line width room ≡ accepted 0 → Accepted words font s width room
-unfolding answerOf isFont
+unfolding answerOf
 accepted-by words font s line width room e =
-    let p1 = peel (not (inRange s)) 0 _ e in
-    let p2 = peel (eqb (s .ratio) 3) 1 _ (p1 .1) in
-    let p3 = peel (not (areWords words)) 2 _ (p2 .1) in
-    let p4 = peel (not (isFont font)) 3 _ (p3 .1) in
-    let p5 = peel (not (onScreen line width)) 4 _ (p4 .1) in
-    let p6 = peel (ltb room (width .0)) 5 _ (p5 .1) in
-    let mode = both-parts (leb (s .mode) 3) _ (not-false (inRange s) (p1 .0)) in
+    let ranged = peel (not (inRange s)) 0 0 _ e in
+    let allowed = peel (eqb (s .ratio) 3) 1 0 _ (ranged .1) in
+    let worded = peel (not (areWords words)) 2 0 _ (allowed .1) in
+    let long = peel (not (eqb (length font) fontRows)) 3 0 _ (worded .1) in
+    let narrow = peel (not (within mostRow font)) 17 (firstAbove mostRow font) _ (long .1) in
+    let placed = peel (not (onScreen line width)) 4 0 _ (narrow .1) in
+    let roomy = peel (ltb room (width .0)) 5 0 _ (placed .1) in
+    let mode = both-parts (leb (s .mode) 3) _ (not-false (inRange s) (ranged .0)) in
     let colour = both-parts (leb (s .colour) 7) _ (mode .1) in
     let h = both-parts (leb (s .h) 63) _ (colour .1) in
     let v = both-parts (leb (s .v) 63) _ (h .1) in
@@ -77,11 +78,11 @@ accepted-by words font s line width room e =
       colour = leb-true (s .colour) 7 (colour .0);
       h = leb-true (s .h) 63 (h .0);
       v = leb-true (s .v) 63 (v .0);
-      ratio = omega (arith, eqb-false (s .ratio) 3 (p2 .0));
+      ratio = omega (arith, eqb-false (s .ratio) 3 (allowed .0));
       frequency = leb-true (s .frequency) 3 (ratio .1);
-      words64 = eqb-true (length words) wordCount (both-parts (eqb (length words) wordCount) _ (not-false (areWords words) (p3 .0)) .0);
-      rows = eqb-true (length font) fontRows (both-parts (eqb (length font) fontRows) _ (not-false (isFont font) (p4 .0)) .0);
-      fits = ltb-false room (width .0) (p6 .0);
+      words64 = eqb-true (length words) wordCount (both-parts (eqb (length words) wordCount) _ (not-false (areWords words) (worded .0)) .0);
+      rows = eqb-true (length font) fontRows (not-false (eqb (length font) fontRows) (long .0));
+      fits = ltb-false room (width .0) (roomy .0);
     }
 
 -- the answer Done
@@ -92,12 +93,17 @@ pub accepted-done : (words font : List ℕ) (s : Settings) (line : Lines) (width
     → Accepted words font s width room
 accepted-done words font s line width room r e d = accepted-by words font s line width room (done-is r _ e d)
 
+-- the tags of all cases but Done
+abbrev pub refusals : List ℕ
+refusals = 1 ∷ 2 ∷ 3 ∷ 4 ∷ 5 ∷ 6 ∷ 7 ∷ []
+
 -- any other case than Done has another number than 0
-pub not-done : (r : Painted) → OneOf (1 ∷ 2 ∷ 3 ∷ 4 ∷ 5 ∷ 6 ∷ []) (tagOf the-type r) → said r .number ≡ 0 → ⊥
-not-done Done w e = ⊎-elim (λ z. omega arith) (⊎-elim (λ z. omega arith) (⊎-elim (λ z. omega arith) (⊎-elim (λ z. omega arith) (⊎-elim (λ z. omega arith) (λ z. omega arith))))) w
+pub not-done : (r : Painted) → OneOf refusals (tagOf the-type r) → said r .number ≡ 0 → ⊥
+not-done Done w e = miss refusals 0 tt w
 not-done BadSetting w e = omega arith
 not-done ReservedRatio w e = omega arith
 not-done BadWords w e = omega arith
-not-done BadFont w e = omega arith
+not-done FontLength w e = omega arith
+not-done (BadRow row) w e = omega arith
 not-done OffScreen w e = omega arith
 not-done NoRoom w e = omega arith

@@ -1,4 +1,4 @@
-// What is handed to the painter, and what of it is refused: the first number of the table that applies, 1 to 6.
+// What is handed to the painter, and what of it is refused: the first number that applies of 1, 2, 3, 4, 18, 5 and 6, in this order.
 ghost use mathlib.Core.Path.{_≡_};
 ghost use Rattle.judging.specs.Judging.{answerOf, said, inRange};
 use units::Dots;
@@ -24,7 +24,10 @@ pub enum Painted {
     ReservedRatio,
     // Not 64 words, or one above 1023.
     BadWords,
-    BadFont,
+    // The font has not 1,116 rows.
+    FontLength,
+    // The font's first row above 4095.
+    BadRow(u32),
     // The line is above 1023 or the width above 1024.
     OffScreen,
     // The output is shorter than the width.
@@ -73,8 +76,12 @@ pub fn judged(
     if !font::all_within(words, MOST_WORD) {
         return Painted::BadWords;
     }
-    if !font::is_font(font) {
-        return Painted::BadFont;
+    if font.len() != font::FONT_ROWS {
+        return Painted::FontLength;
+    }
+    if !font::all_within(font, font::MOST_ROW) {
+        let row = font::first_above(font, font::MOST_ROW) as u32;
+        return Painted::BadRow(row);
     }
     if MOST_LINE < line.0 {
         return Painted::OffScreen;

@@ -8,16 +8,17 @@ use Rattle.laws.specs.Said.{Said}
 use Rattle.laws.proofs.Determined.{Determines, both-say, told-apart}
 use Rattle.writer.specs.Writing.{said}
 use Rattle.writer.specs.declared.Written.{Written}
-use Rattle.writer.specs.declared.Written.the-variants.{Done, NotAFont, NoRoom}
+use Rattle.writer.specs.declared.Written.the-variants.{Done, FontLength, BadRow, NoRoom}
 use Rattle.writer.proofs.write as write
 
 -- the case of which this is said
 abbrev meant : Said → Written
-meant s = pick (eqb (s .number) 0) Done (pick (eqb (s .number) 4) NotAFont NoRoom)
+meant s = pick (eqb (s .number) 0) Done (pick (eqb (s .number) 4) FontLength (pick (eqb (s .number) 18) (BadRow (s .place)) NoRoom))
 
 meant-said : (x : Written) → meant (said x) ≡ x
 meant-said Done = refl
-meant-said NotAFont = refl
+meant-said FontLength = refl
+meant-said (BadRow row) = refl
 meant-said NoRoom = refl
 
 pub write-unique : Determines write.ended (λ w. write.clauses (w .𝓤) (w .H) (w .𝓖 .A) (w .𝓜 .mem) (w .𝓡 .run))

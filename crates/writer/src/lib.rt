@@ -28,8 +28,10 @@ const TEXT_BYTES: usize = RECORD_TEXT * RECORDS + FRONT_TEXT + BACK_TEXT;
 
 pub enum Written {
     Done,
-    // Not 1,116 rows, or one of them over 4095.
-    NotAFont,
+    // The font has not 1,116 rows.
+    FontLength,
+    // The font's first row above 4095.
+    BadRow(u32),
     // Less room than the text needs.
     NoRoom,
 }
@@ -39,8 +41,12 @@ pub fn write(font: &[u16], text: &mut [u8]) -> Written
     ensures { λ r. ⌜ (said r ≡ answerOf (now (font .entry)) (length (now (text .entry))))
         × (now (text .exit) ≡ leftOf (now (font .entry)) (now (text .entry))) ⌝ }
 {
-    if !font::is_font(font) {
-        return Written::NotAFont;
+    if font.len() != font::FONT_ROWS {
+        return Written::FontLength;
+    }
+    if !font::all_within(font, font::MOST_ROW) {
+        let row = font::first_above(font, font::MOST_ROW) as u32;
+        return Written::BadRow(row);
     }
     if text.len() < TEXT_BYTES {
         return Written::NoRoom;
