@@ -1,4 +1,4 @@
-// Answers in document 01's numbers: the struct that crosses to C and that a program's line tells, and how the reader's cases and those of
+// Answers in the documents' numbers: the struct that crosses to C and that a program's line tells, and how the reader's cases and those of
 // turning an image into a font become it.
 ghost use mathlib.Core.Path.{_≡_};
 ghost use Rattle.laws.specs.Said.{accepted as Said·accepted, refused as Said·refused};
@@ -8,7 +8,7 @@ ghost use Rattle.answer.specs.Told.{told};
 use hex::Outcome;
 use image::Turned;
 
-// Number 0 if a call was accepted, else document 01's number of the refusal, with its place; and the value that an accepted call gives.
+// Number 0 if a call was accepted, else the documents' number of the refusal, with its place; and the value that an accepted call gives.
 #[repr(C)]
 pub struct Answer {
     pub number: u32,
@@ -45,7 +45,9 @@ pub fn read_answer(outcome: Outcome) -> Answer
     match outcome {
         Outcome::Done(count) => accepted(count),
         Outcome::NoRoom => refused(6, 0),
-        Outcome::BadShape(place) => refused(7, place),
+        Outcome::TooLong => refused(7, 0),
+        Outcome::BadCharacter(place) => refused(19, place),
+        Outcome::BadShape(place) => refused(20, place),
         Outcome::BadSum(place) => refused(8, place),
         Outcome::BadType(place) => refused(9, place),
         Outcome::PastEnd(place) => refused(10, place),

@@ -35,7 +35,7 @@ module _ (r : List ℕ) where
   unfolding isEnd
   far-end t l a = simp (eq-eqb (typeOf r) 1 t, eq-eqb (lengthOf r) 0 l, ne-eqb (addressOf r) 0 a)
 
-pub fault-shape : (earlier : List (List ℕ)) (r : List ℕ) → r ≡ [] → faultOf earlier r ≡ 7
+pub fault-shape : (earlier : List (List ℕ)) (r : List ℕ) → r ≡ [] → faultOf earlier r ≡ 20
 unfolding faultOf
 fault-shape earlier r e = rw e
 

@@ -18,20 +18,17 @@ use Rattle.laws.proofs.Both.{both-parts}
 use Rattle.laws.proofs.Lists.{getD-tabulate, length-tabulate, tabulate-same}
 use Rattle.laws.proofs.Placing.{span-has}
 use Rattle.hex.specs.Digits.{digit, byteAt, bytesFrom}
-use Rattle.hex.specs.Records.{allDigits, isShaped, spelledBy, recordOf, lengthOf, addressOf, gives, dataAt, byteIn, isGiven}
+use Rattle.hex.specs.Records.{isShaped, spelledBy, recordOf, lengthOf, addressOf, gives, dataAt, byteIn, isGiven}
 use Rattle.hex.specs.Steps.{storedAt}
-use Rattle.hex.proofs.Shape.{digits-at}
+use Rattle.hex.proofs.Shape.{none-bad, digit-later, Fits, shaped-fits}
 
 -- a record of a shaped line: its bytes are bytes, and there are as many as its first asks for
 module _ (body : List ℕ) (e : isShaped body ≡ true) where
-  shaped-parts : (allDigits (drop 1 body) ≡ true) × (length body ≡ 1 + 2 * (5 + byteAt body 1))
-  unfolding isShaped
-  shaped-parts =
-      let parts = both-parts (allDigits (drop 1 body)) (eqb (length body) (1 + 2 * (5 + byteAt body 1))) (both-parts (eqb (getD body 0 0) 58) _ e .1) in
-      (parts .0, eqb-true _ _ (parts .1))
+  fits : Fits body
+  fits = shaped-fits body e
 
   body-digit : (k : ℕ) → 1 + k < length body → digit (getD body (1 + k) 0) < 16
-  body-digit k h = rw (← getD-drop 1 body k 0) (digits-at (drop 1 body) (shaped-parts .0) k (omega (arith, length-drop 1 body)))
+  body-digit k h = digit-later k _ (none-bad body (fits .clean) (1 + k) h)
 
   spelled-is : spelledBy body ≡ bytesFrom body 1 (5 + byteAt body 1)
   unfolding spelledBy
@@ -46,7 +43,7 @@ module _ (body : List ℕ) (e : isShaped body ≡ true) where
   spelled-small i h =
       let at : (k : ℕ) (q : ℕ) → q ≡ 1 + k → 1 + k < length body → digit (getD body q 0) < 16 = λ k q g l. rw g (body-digit k l) in
       rw (ap (λ l. getD l i 0) spelled-is ∙ getD-tabulate (5 + byteAt body 1) (λ i. byteAt body (1 + 2 * i)) i 0 h)
-      (omega (arith, at (2 * i) (1 + 2 * i) refl (omega (arith, shaped-parts .1)), at (2 * i + 1) (1 + 2 * i + 1) (omega arith) (omega (arith, shaped-parts .1))))
+      (omega (arith, at (2 * i) (1 + 2 * i) refl (omega (arith, fits .size)), at (2 * i + 1) (1 + 2 * i + 1) (omega arith) (omega (arith, fits .size))))
 
 pub record-small : (body : List ℕ) (i : ℕ) → getD (spelledBy body) i 0 < 256
 unfolding spelledBy

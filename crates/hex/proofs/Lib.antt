@@ -1,6 +1,7 @@
 pub mod Lines
 pub mod Shape
 pub mod Steps
+pub mod Bad
 pub mod Place
 pub mod Given
 pub mod Faults

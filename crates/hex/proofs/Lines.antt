@@ -1,13 +1,13 @@
 -- Where a line's body ends and what its end is decide the first line of a text: shown by walking the body.
 -- Assumes nothing.
-use mathlib.Core.Path.{_≡_, refl, ap}
+use mathlib.Core.Path.{_≡_, refl, sym, ap}
 use mathlib.Core.Bool.{Bool, true, false, false≢true}
 use mathlib.Core.List.{List, [], _∷_}
 use Prim.Native.Nat.{ℕ, zero, suc, _+_, _<_, _≤_}
 use native.Mathlib.Nat.{le-of-suc-le-suc, not-suc-le-zero, suc-add, zero-add}
 use native.Mathlib.Omega.{arith}
 use lib.Dec.{eqb}
-use lib.ListN.{length, getD, take, drop}
+use lib.ListN.{length, getD, take, drop, drop-of-length-le}
 use borrow.Author.Tests.{ne-eqb}
 use Rattle.laws.specs.Pick.{pick, both}
 use Rattle.laws.proofs.Both.{both-parts}
@@ -21,6 +21,11 @@ lines-nil = refl
 not-end : (c : ℕ) (s : List ℕ) → Plain c → atEnd (c ∷ s) ≡ false
 unfolding atEnd
 not-end c s p = simp (ne-eqb c 10 (p .0), ne-eqb c 13 (p .1))
+
+-- the end of the text is a line's
+pub ends-over : (s : List ℕ) (m : ℕ) → length s ≤ m → atEnd (drop m s) ≡ true
+unfolding atEnd
+ends-over s m h = rw (drop-of-length-le s {i = m} h)
 
 -- the body goes up to the first end
 pub body-cut : (m : ℕ) (s : List ℕ) → m ≤ length s → ((k : ℕ) → k < m → Plain (getD s k 0)) → atEnd (drop m s) ≡ true → bodyOf s ≡ take m s
@@ -45,6 +50,23 @@ body-cuts (c ∷ s) = go (atEnd (c ∷ s)) refl (body-cuts s)
     go : (b : Bool) → atEnd (c ∷ s) ≡ b → Cut s (bodyOf s) → Cut (c ∷ s) (pick b [] (c ∷ bodyOf s))
     go true e cut = record { front = refl; within = omega arith; ends = e }
     go false e cut = record { front = ap (λ (l : List ℕ). c ∷ l) (cut .front); within = omega (arith, cut .within); ends = cut .ends }
+
+-- it has each character before which no end stands, and goes no further than one
+pub body-goes : (m : ℕ) (s : List ℕ) → ((k : ℕ) → k < m → atEnd (drop k s) ≡ false) → m ≤ length (bodyOf s)
+unfolding bodyOf atEnd
+body-goes zero s goes = omega arith
+body-goes (suc m) [] goes = absurd (false≢true (sym (goes 0 (omega arith))))
+body-goes (suc m) (c ∷ s) goes = rw (goes 0 (omega arith)) (let more = body-goes m s (λ k h. goes (suc k) (omega arith)) in omega arith)
+
+pub body-stops : (m : ℕ) (s : List ℕ) → atEnd (drop m s) ≡ true → length (bodyOf s) ≤ m
+unfolding bodyOf
+body-stops m [] e = omega arith
+body-stops zero (c ∷ s) e = rw e (omega arith)
+body-stops (suc m) (c ∷ s) e = go (atEnd (c ∷ s)) (body-stops m s e)
+  where
+    go : (b : Bool) → length (bodyOf s) ≤ m → length (pick b [] (c ∷ bodyOf s)) ≤ suc m
+    go true h = omega arith
+    go false h = omega arith
 
 -- the first line: the body and its end
 first-here : (c : ℕ) (s : List ℕ) → atEnd (c ∷ s) ≡ true → lines (c ∷ s) ≡ take (endLength (c ∷ s)) (c ∷ s) ∷ lines (drop (endLength (c ∷ s)) (c ∷ s))

@@ -19,7 +19,7 @@ use Rattle.hex.specs.Reading.{answerOf, leftOf, said, verdict}
 use Rattle.hex.specs.Steps.{Collected, byteOf}
 use Rattle.hex.specs.declared.Outcome.{Outcome}
 use Rattle.hex.proofs.Outcome as outcome
-use Rattle.hex.specs.declared.Outcome.the-variants.{Done, NoRoom, BadShape, BadSum, BadType, PastEnd, GivenTwice, BadEnd}
+use Rattle.hex.specs.declared.Outcome.the-variants.{Done, NoRoom, TooLong, BadCharacter, BadShape, BadSum, BadType, PastEnd, GivenTwice, BadEnd}
 use Rattle.hex.proofs.Given.{record-small}
 
 -- the scratch as bytes are the image: FF where no record gives one
@@ -54,10 +54,16 @@ module _ (text room : List ℕ) (long : 8192 ≤ length room) (short : length te
     unfolding leftOf
     keeps e = rw (ne-eqb _ 0 (λ z. e (number ∙ z)))
 
+-- the tags of all cases but the first
+abbrev refusals : List ℕ
+refusals = 1 ∷ 2 ∷ 3 ∷ 4 ∷ 5 ∷ 6 ∷ 7 ∷ 8 ∷ 9 ∷ []
+
 -- an outcome that is not the first case is a refusal
-pub not-done : (x : Outcome) → OneOf (1 ∷ 2 ∷ 3 ∷ 4 ∷ 5 ∷ 6 ∷ 7 ∷ []) (tagOf outcome.the-type x) → said x .number ≡ 0 → ⊥
-not-done (Done n) k e = miss (1 ∷ 2 ∷ 3 ∷ 4 ∷ 5 ∷ 6 ∷ 7 ∷ []) 0 tt k
+pub not-done : (x : Outcome) → OneOf refusals (tagOf outcome.the-type x) → said x .number ≡ 0 → ⊥
+not-done (Done n) k e = miss refusals 0 tt k
 not-done NoRoom k e = omega arith
+not-done TooLong k e = omega arith
+not-done (BadCharacter p) k e = omega arith
 not-done (BadShape p) k e = omega arith
 not-done (BadSum p) k e = omega arith
 not-done (BadType p) k e = omega arith

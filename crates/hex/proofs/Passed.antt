@@ -19,10 +19,10 @@ use Rattle.laws.specs.Lists.{tabulate, firstOf}
 use Rattle.laws.specs.Sums.{sumAll}
 use Rattle.laws.proofs.Sums.{sum-take}
 use Rattle.laws.proofs.Lists.{is-tabulate, first-is, first-none, first-same, first-before, getD-tabulate, length-tabulate, take-map}
-use Rattle.hex.specs.Digits.{byteAt, bytesFrom}
+use Rattle.hex.specs.Digits.{digit, byteAt, bytesFrom}
 use Rattle.hex.specs.Lines.{bodyOf, lines, onto, placeOf}
 use Rattle.hex.specs.Records.{frame, sumOf, addressOf, isGiven, freshIn, records, recordOf, spelledBy, isShaped, lengthOf, byteIn, countOf, faultOf, isEnd}
-use Rattle.hex.specs.Reading.{nth, faultAt, stopsAt, stopOf, judged, verdict}
+use Rattle.hex.specs.Reading.{nth, faultAt, stopsAt, stopOf, faultSaid, judged, verdict}
 use Rattle.hex.specs.Steps.{unfilled, storedAt, recordAt, nextAt, lineAt}
 use Rattle.hex.specs.declared.Line.{Line}
 use Rattle.hex.specs.declared.Line.the-variants.{Shaped, Unshaped}
@@ -70,7 +70,7 @@ line-unshaped text at e = go (isShaped (bodyOf (drop at text))) e
     go false e = refl
 
 record-nil : recordOf [] ≡ []
-unfolding spelledBy isShaped bodyOf
+unfolding spelledBy isShaped bodyOf firstOf digit
 record-nil = refl
 
 pub unfilled-length : length unfilled ≡ 8192
@@ -142,14 +142,17 @@ module _ (text : List ℕ) (at count : ℕ) (scratch : List ℕ) (before : Passe
     fault-here : faultAt (records text) (before .k) ≡ faultOf (take (before .k) (records text)) (recordAt text at)
     fault-here = ap (faultOf (take (before .k) (records text))) record-here
 
+    body-here : bodyOf (nth (lines text) (before .k)) ≡ bodyOf (drop at text)
+    body-here = ap bodyOf line-here ∙ first-body (drop at text)
+
     -- it is faulty
-    pub verdict-fault : (f : ℕ) → 0 < f → faultOf (take (before .k) (records text)) (recordAt text at) ≡ f → verdict text ≡ refused f at
+    pub verdict-fault : (f : ℕ) → 0 < f → faultOf (take (before .k) (records text)) (recordAt text at) ≡ f → verdict text ≡ faultSaid (bodyOf (drop at text)) at f
     unfolding judged
     verdict-fault f h e =
         let fault = fault-here ∙ e in
         let stop : stopOf (records text) ≡ before .k =
         first-is (length (records text)) (stopsAt (records text)) (before .k) k-below (before .past) (rw (fault, lt-ltb 0 f h)) in
-        rw (stop, lt-ltb _ _ k-below, fault, lt-ltb 0 f h, ← before .place)
+        rw (stop, lt-ltb _ _ k-below, fault, lt-ltb 0 f h, body-here, ← before .place)
 
     module _ (good : faultOf (take (before .k) (records text)) (recordAt text at) ≡ 0) where
       -- it is the end record: the last line, or not

@@ -2,7 +2,7 @@
 -- through the last digit asked for, since neither a colon nor a digit is part of a line's end.
 -- Assumes nothing.
 use mathlib.Core.Path.{_≡_, refl, sym, _∙_, ap}
-use mathlib.Core.Bool.{Bool, true, false}
+use mathlib.Core.Bool.{Bool, true, false, not}
 use mathlib.Core.List.{List, [], _∷_}
 use Prim.Native.Nat.{ℕ, zero, suc, _+_, _-_, _*_, _<_, _≤_}
 use native.Mathlib.Nat.{le-of-suc-le-suc, not-suc-le-zero, add-zero}
@@ -10,13 +10,14 @@ use native.Mathlib.Omega.{arith}
 use lib.Dec.{eqb, ltb}
 use lib.ListN.{length, getD, take, drop, length-drop}
 use lib.Seq.{getD-take, getD-drop, drop-drop, length-take-le}
-use borrow.Author.Tests.{lt-ltb, ltb-true, eq-eqb, eqb-true}
+use borrow.Author.Tests.{lt-ltb, le-ltb, ltb-true, ltb-false, eq-eqb, ne-eqb, eqb-true, not-true, not-false}
 use Rattle.laws.specs.Lists.{tabulate}
 use Rattle.laws.proofs.Both.{both-parts}
-use Rattle.laws.proofs.Lists.{tabulate-same}
+use Rattle.laws.proofs.Lists.{tabulate-same, first-none, first-before}
 use Rattle.hex.specs.Digits.{digit, byteAt, bytesFrom}
 use Rattle.hex.specs.Lines.{Plain, atEnd, bodyOf}
-use Rattle.hex.specs.Records.{allDigits, isShaped, spelledBy}
+use Rattle.hex.specs.Records.{belongs, firstBad, hasBad, isShaped, spelledBy}
+use Rattle.hex.specs.Steps.{allDigits}
 use Rattle.hex.proofs.Lines.{Cut, body-cut, body-cuts}
 
 pub digits-at : (l : List ℕ) → allDigits l ≡ true → (k : ℕ) → k < length l → digit (getD l k 0) < 16
@@ -29,6 +30,49 @@ pub digits-all : (l : List ℕ) → ((k : ℕ) → k < length l → digit (getD 
 unfolding allDigits
 digits-all [] h = refl
 digits-all (c ∷ l) h = rw (lt-ltb (digit c) 16 (h 0 (omega arith))) (digits-all l (λ k g. h (suc k) (omega arith)))
+
+-- in the first place a colon belongs, in a later one a digit
+pub colon-first : (c : ℕ) → belongs 0 c ≡ true → c ≡ 58
+unfolding belongs
+colon-first c e = eqb-true c 58 e
+
+pub digit-later : (k c : ℕ) → belongs (1 + k) c ≡ true → digit c < 16
+unfolding belongs
+digit-later k c e = ltb-true (digit c) 16 (rw (ne-eqb (1 + k) 0 (omega arith)) at e)
+
+pub first-colon : (c : ℕ) → c ≡ 58 → belongs 0 c ≡ true
+unfolding belongs
+first-colon c e = eq-eqb c 58 e
+
+pub later-digit : (k c : ℕ) → digit c < 16 → belongs (1 + k) c ≡ true
+unfolding belongs
+later-digit k c h = rw (ne-eqb (1 + k) 0 (omega arith)) (lt-ltb (digit c) 16 h)
+
+-- where there is no bad character each belongs in its place, and the other way round
+pub none-bad : (body : List ℕ) → hasBad body ≡ false → (k : ℕ) → k < length body → belongs k (getD body k 0) ≡ true
+none-bad body e k h =
+    not-false (belongs k (getD body k 0))
+    (first-before (length body) (λ k. not (belongs k (getD body k 0))) k (omega (arith, ltb-false (firstBad body) (length body) e)))
+
+pub each-belongs : (body : List ℕ) → ((k : ℕ) → k < length body → belongs k (getD body k 0) ≡ true) → hasBad body ≡ false
+each-belongs body each =
+    let none = first-none (length body) (λ k. not (belongs k (getD body k 0))) (λ k h. ap not (each k h)) in
+    le-ltb (firstBad body) (length body) (omega arith)
+
+-- a line of the record's shape, without its end
+pub record Fits (body : List ℕ) : Type 0 where
+  pub clean : hasBad body ≡ false
+  pub size : length body ≡ 1 + 2 * (5 + byteAt body 1)
+
+pub shaped-fits : (body : List ℕ) → isShaped body ≡ true → Fits body
+unfolding isShaped
+shaped-fits body e =
+    let parts = both-parts (not (hasBad body)) (eqb (length body) (1 + 2 * (5 + byteAt body 1))) e in
+    record { clean = not-true (hasBad body) (parts .0); size = eqb-true _ _ (parts .1) }
+
+pub fits-shaped : (body : List ℕ) → Fits body → isShaped body ≡ true
+unfolding isShaped
+fits-shaped body fits = rw (fits .clean) (eq-eqb (length body) (1 + 2 * (5 + byteAt body 1)) (fits .size))
 
 digit-plain : (c : ℕ) → digit c < 16 → Plain c
 unfolding digit
@@ -96,18 +140,21 @@ module _ (text : List ℕ) (place : ℕ) where
     body-is : bodyOf (drop place text) ≡ take bodySize (drop place text)
     body-is = body-cut bodySize (drop place text) body-fits body-plain body-ends
 
+    front-belongs : (k : ℕ) → k < bodySize → belongs k (getD (take bodySize (drop place text)) k 0) ≡ true
+    front-belongs zero h = first-colon _ (getD-take bodySize (drop place text) 0 0 (omega arith) ∙ at-front ∙ shape .begins)
+    front-belongs (suc k) h =
+        let one : suc k ≡ 1 + k = omega arith in
+        rw one
+        (later-digit k _ (rw (getD-take bodySize (drop place text) (1 + k) 0 (omega arith) ∙ at-next k) (shape .digits k (omega arith))))
+
     pub shape-is : isShaped (bodyOf (drop place text)) ≡ true
-    unfolding isShaped
     shape-is =
         let body = take bodySize (drop place text) in
         let long : length body ≡ bodySize = length-take-le bodySize (drop place text) body-fits in
         let size = ap (λ n. 5 + n) (byte-front (drop place text) bodySize 1 (omega arith)) ∙ size-here in
         rw body-is
-        (rw (getD-take bodySize (drop place text) 0 0 (omega arith) ∙ at-front ∙ shape .begins)
-        (rw (digits-all (drop 1 body) (λ k h.
-        let l : 1 + k < bodySize = omega (arith, length-drop 1 body) in
-        rw (getD-drop 1 body k 0 ∙ getD-take bodySize (drop place text) (1 + k) 0 l ∙ at-next k) (shape .digits k (omega arith))))
-        (eq-eqb (length body) (1 + 2 * (5 + byteAt body 1)) (long ∙ ap (λ n. 1 + 2 * n) (sym size)))))
+        (fits-shaped body
+        (record { clean = each-belongs body (λ k h. front-belongs k (omega arith)); size = long ∙ ap (λ n. 1 + 2 * n) (sym size) }))
 
     pub shape-spells : spelledBy (bodyOf (drop place text)) ≡ bytesFrom text (place + 1) (sizeAt text place)
     unfolding spelledBy
@@ -120,23 +167,19 @@ module _ (text : List ℕ) (place : ℕ) where
 
   -- and no other line has it
   pub shape-has : isShaped (bodyOf (drop place text)) ≡ true → Shape text place
-  unfolding isShaped
-  shape-has shaped = go (bodyOf (drop place text)) (body-cuts (drop place text)) shaped
+  shape-has shaped = go (bodyOf (drop place text)) (body-cuts (drop place text)) (shaped-fits (bodyOf (drop place text)) shaped)
     where
-      go : (body : List ℕ) → Cut (drop place text) body → isShaped body ≡ true → Shape text place
-      go body cut e =
-          let parts = both-parts (eqb (getD body 0 0) 58) _ e in
-          let more = both-parts (allDigits (drop 1 body)) (eqb (length body) (1 + 2 * (5 + byteAt body 1))) (parts .1) in
-          let long : length body ≡ 1 + 2 * (5 + byteAt body 1) = eqb-true _ _ (more .1) in
+      go : (body : List ℕ) → Cut (drop place text) body → Fits body → Shape text place
+      go body cut fits =
+          let long = fits .size in
           let at : (k : ℕ) → k < length body → getD body k 0 ≡ getD (drop place text) k 0 =
           λ k h. ap (λ l. getD l k 0) (cut .front) ∙ getD-take (length body) (drop place text) k 0 h in
           let same : byteAt body 1 ≡ byteAt (drop place text) 1 = rw (at 1 (omega arith), at 2 (omega arith)) in
           let size : length body ≡ 1 + 2 * sizeAt text place = long ∙ ap (λ n. 1 + 2 * (5 + n)) same ∙ ap (λ n. 1 + 2 * n) size-here in
           let place-is : place + length body ≡ place + 1 + 2 * sizeAt text place = omega arith in
           record {
-            begins = sym at-front ∙ sym (at 0 (omega arith)) ∙ eqb-true (getD body 0 0) 58 (parts .0);
-            digits = λ k h.
-                rw (← at-next k, ← at (1 + k) (omega arith), ← getD-drop 1 body k 0) (digits-at (drop 1 body) (more .0) k (omega (arith, length-drop 1 body)));
+            begins = sym at-front ∙ sym (at 0 (omega arith)) ∙ colon-first _ (none-bad body (fits .clean) 0 (omega arith));
+            digits = λ k h. rw (← at-next k, ← at (1 + k) (omega arith)) (digit-later k _ (none-bad body (fits .clean) (1 + k) (omega arith)));
             reaches = omega (arith, cut .within, length-drop place text);
             ends = rw (← place-is, ← drop-drop (length body) place text) (cut .ends);
           }

@@ -2,7 +2,7 @@
 -- Assumes nothing.
 use mathlib.Core.Path.{_≡_, refl, sym, _∙_, ap}
 use mathlib.Core.Bool.{Bool, true, false, false≢true}
-use mathlib.Core.List.{List}
+use mathlib.Core.List.{List, _∷_}
 use Prim.Native.Nat.{ℕ, suc, _+_, _-_, _*_, _%_, _<_, _≤_}
 use native.Mathlib.Nat.{mod-add-mod, add-zero, add-assoc}
 use native.Mathlib.Decide.{ℕ-discrete, decLt}
@@ -25,8 +25,7 @@ use Rattle.laws.proofs.Patched.{patched-none, patched-here, patched-other, patc
 use Rattle.laws.proofs.Sums.{sum-tabulate}
 use Rattle.hex.specs.Digits.{digit, byteAt, bytesFrom}
 use Rattle.hex.specs.Lines.{atEnd}
-use Rattle.hex.specs.Records.{allDigits}
-use Rattle.hex.specs.Steps.{Decoded, Stored, digitTable, spelledAt, sumFrom, endedBy, pastEnd, endLength, storedAt, isFresh}
+use Rattle.hex.specs.Steps.{Decoded, Stored, digitTable, spelledAt, allDigits, sumFrom, endedBy, pastEnd, endLength, storedAt, isFresh}
 use Rattle.hex.specs.declared.Outcome.the-variants.{Done, BadType, BadEnd}
 use Rattle.hex.proofs.Shape.{digits-at, digits-all}
 
@@ -75,6 +74,20 @@ module _ (text : List ℕ) (place : ℕ) where
   past-here h =
       let next : getD (drop (suc place) text) 0 0 ≡ getD text (place + 1) 0 = getD-drop (suc place) text 0 0 ∙ ap (λ n. getD text n 0) (omega arith) in
       rw (drop-cons text place 0 h, next)
+
+  -- a line's end that stands there has a length
+  pub past-none : place < length text → pastEnd text place ≡ 0 → atEnd (drop place text) ≡ false
+  unfolding pastEnd
+  past-none h none = go (atEnd (drop place text)) refl (drop place text) (drop-cons text place 0 h) none
+    where
+      go : (b : Bool) → atEnd (drop place text) ≡ b → (s : List ℕ) → s ≡ getD text place 0 ∷ drop (suc place) text → pick b (place + endLength s) 0 ≡ 0
+          → atEnd (drop place text) ≡ false
+      go true e s is none = absurd (some (eqb (getD text place 0) 10) (ap (λ l. place + endLength l) (sym is) ∙ none))
+        where
+          some : (b : Bool) → place + pick b 1 2 ≡ 0 → ⊥
+          some true e = omega arith
+          some false e = omega arith
+      go false e s is none = e
 
   pub past-some : atEnd (drop place text) ≡ true → pastEnd text place ≡ place + endLength (drop place text)
   unfolding pastEnd

@@ -8,7 +8,7 @@ use Rattle.laws.specs.Said.{Said}
 use Rattle.laws.proofs.Determined.{Determines, both-say, told-apart}
 use Rattle.hex.specs.Reading.{said}
 use Rattle.hex.specs.declared.Outcome.{Outcome}
-use Rattle.hex.specs.declared.Outcome.the-variants.{Done, NoRoom, BadShape, BadSum, BadType, PastEnd, GivenTwice, BadEnd}
+use Rattle.hex.specs.declared.Outcome.the-variants.{Done, NoRoom, TooLong, BadCharacter, BadShape, BadSum, BadType, PastEnd, GivenTwice, BadEnd}
 use Rattle.hex.proofs.read as read
 
 -- the case of which this is said
@@ -16,14 +16,18 @@ abbrev meant : Said → Outcome
 meant s =
     pick (eqb (s .number) 0) (Done (s .value))
     (pick (eqb (s .number) 6) NoRoom
-    (pick (eqb (s .number) 7) (BadShape (s .place))
+    (pick (eqb (s .number) 7) TooLong
+    (pick (eqb (s .number) 19) (BadCharacter (s .place))
+    (pick (eqb (s .number) 20) (BadShape (s .place))
     (pick (eqb (s .number) 8) (BadSum (s .place))
     (pick (eqb (s .number) 9) (BadType (s .place))
-    (pick (eqb (s .number) 10) (PastEnd (s .place)) (pick (eqb (s .number) 11) (GivenTwice (s .place)) (BadEnd (s .place))))))))
+    (pick (eqb (s .number) 10) (PastEnd (s .place)) (pick (eqb (s .number) 11) (GivenTwice (s .place)) (BadEnd (s .place))))))))))
 
 meant-said : (x : Outcome) → meant (said x) ≡ x
 meant-said (Done count) = refl
 meant-said NoRoom = refl
+meant-said TooLong = refl
+meant-said (BadCharacter place) = refl
 meant-said (BadShape place) = refl
 meant-said (BadSum place) = refl
 meant-said (BadType place) = refl

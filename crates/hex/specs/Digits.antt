@@ -3,7 +3,7 @@
 use Prim.Native.Nat.{ℕ, _+_, _-_, _*_}
 use mathlib.Core.Bool.{Bool}
 use mathlib.Core.List.{List}
-use lib.Dec.{leb}
+use lib.Dec.{leb, ltb}
 use lib.ListN.{getD}
 use Rattle.laws.specs.Pick.{pick, both}
 use Rattle.laws.specs.Lists.{tabulate}
@@ -14,6 +14,9 @@ among low high c = both (leb low c) (leb c high)
 -- the value of a digit, 0 to 9, A to F or a to f, and 16 for any other byte
 unfoldable pub digit : ℕ → ℕ
 digit c = pick (among 48 57 c) (c - 48) (pick (among 65 70 c) (c - 55) (pick (among 97 102 c) (c - 87) 16))
+
+abbrev pub isDigit : ℕ → Bool
+isDigit c = ltb (digit c) 16
 
 -- the byte that the two digits at a place spell
 abbrev pub byteAt : List ℕ → ℕ → ℕ

@@ -1,4 +1,5 @@
--- Records: document 01, 'The character image', second paragraph, and numbers 7 to 11 of its table.
+-- Records: document 01, 'The character image', second paragraph, and numbers 8 to 11 of its table, with 19 and 20 by M-102: what a line is
+-- that is no record.
 -- A record is the list of its bytes: length, address (high byte first), type, data, checksum. A line that has not the record's shape
 -- gives the empty list.
 -- Assumes nothing.
@@ -6,13 +7,13 @@ use Prim.Native.Nat.{ℕ, _+_, _-_, _*_, _%_}
 use mathlib.Core.Bool.{Bool, true, false, not}
 use mathlib.Core.List.{List, [], _∷_, map}
 use lib.Dec.{eqb, ltb}
-use lib.ListN.{length, getD, drop}
+use lib.ListN.{length, getD}
 use Rattle.laws.specs.Pick.{pick, both}
 use Rattle.laws.specs.Lists.{firstOf}
 use Rattle.laws.specs.Placing.{spanHas}
 use Rattle.laws.specs.Sums.{sumAll}
 use Rattle.image.specs.Image.{imageBytes}
-use Rattle.hex.specs.Digits.{digit, byteAt, bytesFrom}
+use Rattle.hex.specs.Digits.{isDigit, byteAt, bytesFrom}
 use Rattle.hex.specs.Lines.{lines, bodyOf}
 
 abbrev pub colon : ℕ
@@ -29,13 +30,20 @@ dataType = 0
 abbrev pub endType : ℕ
 endType = 1
 
-unfoldable pub allDigits : List ℕ → Bool
-allDigits [] = true
-allDigits (c ∷ rest) = both (ltb (digit c) 16) (allDigits rest)
+-- whether a character belongs in its place of a line: a colon in the first, 0, and a digit in every later one
+unfoldable pub belongs : ℕ → ℕ → Bool
+belongs place c = pick (eqb place 0) (eqb c colon) (isDigit c)
 
--- the record's shape, of a line without its end: a colon, then digits only, two for each byte, as many bytes as the first of them asks for
+-- the place of the first bad character of a line without its end, the first that does not belong there; the line's length, where each does
+abbrev pub firstBad : List ℕ → ℕ
+firstBad body = firstOf (length body) (λ k. not (belongs k (getD body k 0)))
+
+abbrev pub hasBad : List ℕ → Bool
+hasBad body = ltb (firstBad body) (length body)
+
+-- the record's shape, of a line without its end: no bad character, and two digits for each byte, as many bytes as the first of them asks for
 unfoldable pub isShaped : List ℕ → Bool
-isShaped body = both (eqb (getD body 0 0) colon) (both (allDigits (drop 1 body)) (eqb (length body) (1 + 2 * (frame + byteAt body 1))))
+isShaped body = both (not (hasBad body)) (eqb (length body) (1 + 2 * (frame + byteAt body 1)))
 
 -- the record of a line without its end
 unfoldable pub spelledBy : List ℕ → List ℕ
@@ -91,10 +99,10 @@ freshIn earlier r = firstOf (lengthOf r) (λ i. isGiven earlier (addressOf r + i
 abbrev pub countOf : List (List ℕ) → ℕ
 countOf rs = sumAll (map lengthOf rs)
 
--- the number of a record's fault after earlier records, by the order of the table, and 0 where it has none
+-- the number of a record's fault after earlier records, by the order of the table, and 0 where it has none: 20 is that its line has not the shape
 unfoldable pub faultOf : List (List ℕ) → List ℕ → ℕ
 faultOf earlier r =
-    pick (eqb (length r) 0) 7
+    pick (eqb (length r) 0) 20
     (pick (not (eqb (sumOf r) 0)) 8
     (pick (not (pick (isEnd r) true (eqb (typeOf r) dataType))) 9
     (pick (ltb imageBytes (addressOf r + lengthOf r)) 10

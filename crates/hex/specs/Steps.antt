@@ -12,14 +12,14 @@ use Rattle.laws.specs.Lists.{tabulate, firstOf}
 use Rattle.laws.specs.Placing.{patched}
 use Rattle.laws.specs.Sums.{sumAll}
 use Rattle.image.specs.Image.{imageBytes, unused}
-use Rattle.hex.specs.Digits.{digit, byteAt, bytesFrom}
+use Rattle.hex.specs.Digits.{digit, isDigit, byteAt, bytesFrom}
 use Rattle.hex.specs.Lines.{lines, bodyOf, atEnd, LF}
-use Rattle.hex.specs.Records.{frame, isShaped, recordOf, records, byteIn, allDigits, sumOf}
+use Rattle.hex.specs.Records.{frame, firstBad, hasBad, isShaped, recordOf, records, byteIn, sumOf}
 use Rattle.hex.specs.Reading.{mostText, said, verdict}
 use Rattle.hex.specs.declared.Line.{Line}
 use Rattle.hex.specs.declared.Line.the-variants.{Shaped, Unshaped}
 use Rattle.hex.specs.declared.Outcome.{Outcome}
-use Rattle.hex.specs.declared.Outcome.the-variants.{Done, BadType, BadEnd}
+use Rattle.hex.specs.declared.Outcome.the-variants.{Done, BadCharacter, BadShape, BadType, BadEnd}
 
 -- the bytes of the longest record
 abbrev pub recordMost : ℕ
@@ -31,7 +31,11 @@ digitTable = tabulate 256 digit
 
 -- the byte that the two digits at a place spell, or 256 where one of them is no digit
 unfoldable pub spelledAt : List ℕ → ℕ → ℕ
-spelledAt text place = pick (both (ltb (digit (getD text place 0)) 16) (ltb (digit (getD text (place + 1) 0)) 16)) (byteAt text place) 256
+spelledAt text place = pick (both (isDigit (getD text place 0)) (isDigit (getD text (place + 1) 0))) (byteAt text place) 256
+
+unfoldable pub allDigits : List ℕ → Bool
+allDigits [] = true
+allDigits (c ∷ rest) = both (isDigit c) (allDigits rest)
 
 -- the eight-bit sum of n bytes from a place on, two digits each, or 256 where they are not all digits
 unfoldable pub sumFrom : List ℕ → ℕ → ℕ → ℕ
@@ -57,7 +61,13 @@ nextAt text place = place + length (getD (lines (drop place text)) 0 [])
 unfoldable pub lineAt : List ℕ → ℕ → Line
 lineAt text place = pick (isShaped (bodyOf (drop place text))) (Shaped (sumOf (recordAt text place)) (nextAt text place)) Unshaped
 
--- what is said at a record of the end record's type, with n bytes of data and an address, in the line at a place: by whether more text follows
+-- what is answered at a line without the record's shape, which starts at a place
+unfoldable pub badLine : List ℕ → ℕ → Outcome
+badLine text place =
+    let body = bodyOf (drop place text) in
+    pick (hasBad body) (BadCharacter (place + firstBad body)) (BadShape place)
+
+-- what is answered at a record of the end record's type, with n bytes of data and an address, in the line at a place: by whether more text follows
 -- that line, after where it does, and what the records before it give
 unfoldable pub endedBy : ℕ → ℕ → ℕ → Bool → ℕ → ℕ → Outcome
 endedBy n address place more after count = pick (both (eqb n 0) (eqb address 0)) (pick more (BadEnd after) (Done count)) (BadType place)
@@ -98,6 +108,11 @@ pub record ToParse (digits text : List ℕ) (at : ℕ) (bytes : List ℕ) : Type
 pub record Parsed (text : List ℕ) (at : ℕ) (bytes : List ℕ) (r : Line) : Type 0 where
   pub line : r ≡ lineAt text at
   pub front : take (length (recordAt text at)) bytes ≡ recordAt text at
+
+pub record ToJudge (digits text : List ℕ) (at : ℕ) : Type 0 where
+  pub table : digits ≡ digitTable
+  pub here : at < length text
+  pub short : length text ≤ mostText
 
 pub record ToDecode (digits text : List ℕ) (from n : ℕ) (bytes : List ℕ) : Type 0 where
   pub table : digits ≡ digitTable

@@ -5,9 +5,9 @@ ghost use mathlib.Core.List.{_++_};
 ghost use lib.ListN.{length, getD, drop};
 ghost use Rattle.laws.specs.Lists.{tabulate};
 ghost use Rattle.image.specs.Image.{imageBytes};
-ghost use Rattle.hex.specs.Records.{addressOf};
+ghost use Rattle.hex.specs.Records.{belongs as Records·belongs, addressOf};
 ghost use Rattle.hex.specs.Reading.{mostText, answerOf, leftOf, said};
-ghost use Rattle.hex.specs.Steps.{ToCollect, Collected, ToParse, Parsed, ToDecode, Decoded, ToSpell, spelledAt, endedBy, ToStore, Stored, pastEnd, byteOf};
+ghost use Rattle.hex.specs.Steps.{ToCollect, Collected, ToParse, Parsed, ToJudge, badLine, digitTable, ToDecode, Decoded, ToSpell, spelledAt, endedBy, ToStore, Stored, pastEnd, byteOf};
 
 mod digits;
 
@@ -40,7 +40,11 @@ pub enum Outcome {
     Done(u32),
     // Less room than an image needs.
     NoRoom,
-    // The text is too long (0), or the line here has not the record's shape.
+    // The text is longer than any that is read.
+    TooLong,
+    // A line's first character, here, is no colon; or a later one, here, is no digit.
+    BadCharacter(u32),
+    // The line here has not the record's shape, though each character is in its place.
     BadShape(u32),
     BadSum(u32),
     // Another type, or an end record with data or an address.
@@ -62,7 +66,7 @@ pub fn read(text: &[u8], image: &mut [u8]) -> Outcome
         return Outcome::NoRoom;
     }
     if MOST_TEXT < text.len() {
-        return Outcome::BadShape(0);
+        return Outcome::TooLong;
     }
     let digits = digits::DIGITS;
     let mut bytes = [0u8; RECORD_MOST];
@@ -87,7 +91,7 @@ fn collect(digits: &[u8], text: &[u8], bytes: &mut [u8], scratch: &mut [u16]) ->
     while at < text.len() {
         let place = at as u32;
         let Line::Shaped { sum, next } = parse(digits, text, at, bytes) else {
-            return Outcome::BadShape(place);
+            return bad_line(digits, text, at);
         };
         let after = next as u32;
         if sum != 0 {
@@ -178,6 +182,38 @@ fn parse(digits: &[u8], text: &[u8], at: usize, bytes: &mut [u8]) -> Line
     }
     let sum = sum as u8;
     Line::Shaped { sum, next }
+}
+
+// The answer at a line without the record's shape: its first bad character, or, where each is in its place, the line's start.
+fn bad_line(digits: &[u8], text: &[u8], at: usize) -> Outcome
+    requires { ⌜ ToJudge (now digits) (now text) at ⌝ }
+    ensures { λ r. ⌜ r ≡ badLine (now (text .entry)) at ⌝ }
+{
+    let start = at as u32;
+    let mut k = 0usize;
+    while at + k < text.len() {
+        let place = at + k;
+        if past_end(text, place) != 0 {
+            return Outcome::BadShape(start);
+        }
+        if !belongs(digits, k, text[place]) {
+            let bad = place as u32;
+            return Outcome::BadCharacter(bad);
+        }
+        k += 1;
+    }
+    Outcome::BadShape(start)
+}
+
+// Whether a character belongs in its place of a line.
+fn belongs(digits: &[u8], place: usize, c: u8) -> bool
+    requires { ⌜ now digits ≡ digitTable ⌝ }
+    ensures { λ r. ⌜ r ≡ Records·belongs place c ⌝ }
+{
+    if place == 0 {
+        return c == COLON;
+    }
+    digits[c as usize] < 16
 }
 
 // n bytes of two digits each, from a place on: into bytes, with their eight-bit sum, carries dropped; or 256 where one is no digit.

@@ -44,7 +44,8 @@ pub fn painted_answer(painted: Painted) -> Answer
         Painted::BadSetting => answer::refused(1, 0),
         Painted::ReservedRatio => answer::refused(2, 0),
         Painted::BadWords => answer::refused(3, 0),
-        Painted::BadFont => answer::refused(4, 0),
+        Painted::FontLength => answer::refused(4, 0),
+        Painted::BadRow(row) => answer::refused(18, row),
         Painted::OffScreen => answer::refused(5, 0),
         Painted::NoRoom => answer::refused(6, 0),
     }
@@ -56,7 +57,8 @@ pub fn written_answer(written: Written) -> Answer
 {
     match written {
         Written::Done => answer::accepted(0),
-        Written::NotAFont => answer::refused(4, 0),
+        Written::FontLength => answer::refused(4, 0),
+        Written::BadRow(row) => answer::refused(18, row),
         Written::NoRoom => answer::refused(6, 0),
     }
 }

@@ -1,8 +1,9 @@
 -- In each arm the struct tells what is said of the case that was met.
 -- Assumes nothing.
-use mathlib.Core.Path.{sym, _∙_, ap}
 use Rattle.image.specs.Image.{said}
+use Rattle.image.specs.declared.Turned.the-variants.{Done, NotAFont}
 use borrow.Author.Needs.{needs}
+use Rattle.answer.proofs.Tells.{tells}
 use Rattle.answer.proofs.turned_answer.Statement.{statement}
 use Rattle.answer.proofs.turned_answer.Tie as tie
 
@@ -19,11 +20,18 @@ refused-requires : tie.Need-refused-requires
 refused-requires c κs = search needs
 
 returns : tie.Need-returns
-returns c = c .accepted .ensures ∙ sym (ap said (c .before .enum-told .given .1))
+returns c = tells said Done (c .before .enum-told .given .1) (c .accepted .ensures)
 
 returns-2 : tie.Need-returns-2
-returns-2 c = c .refused .ensures ∙ sym (ap said (c .before .before .turned .given .1))
+returns-2 c = tells said (NotAFont _) (c .before .before .turned .given .1) (c .refused .ensures)
 
 pub turned-answer-spec : {M : Type 1} → statement M
 turned-answer-spec =
-    tie.close (tie.spec enum-told accepted-requires enum-known-turned refused-requires returns returns-2)
+    tie.close
+    (tie.spec
+    enum-told
+    accepted-requires
+    enum-known-turned
+    refused-requires
+    returns
+    returns-2)

@@ -35,6 +35,11 @@ enum-known-sum c = search needs
 enum-told : tie.Need-enum-told Inv-loop μ-loop
 enum-told c = search needs
 
+bad-line-requires : tie.Need-bad-line-requires Inv-loop μ-loop
+bad-line-requires c κs =
+    let pre = (let s : tie.Start Inv-loop μ-loop = search in s .pre) in
+    record { table = pre .table; here = omega arith; short = omega arith }
+
 same-length : tie.Need-same-length Inv-loop μ-loop
 same-length c = omega arith
 
@@ -46,7 +51,8 @@ returns c =
     let turn = (let h : tie.At-loop Inv-loop μ-loop = search in h .loop) in
     let parsed = (let p : tie.After-parse Inv-loop μ-loop = search in p .parse .ensures) in
     let told = (let l : tie.After-enum-told Inv-loop μ-loop = search in l .enum-told .given .1) in
-    refused-by (meets-none (turn .inv .passed) (omega arith) parsed told) (omega arith)
+    let answer = (let b : tie.After-bad-line Inv-loop μ-loop = search in b .bad-line .ensures) in
+    meets-none (turn .inv .passed) (omega arith) parsed told answer
 
 cast-after : tie.Need-cast-after Inv-loop μ-loop
 cast-after c =
@@ -219,6 +225,7 @@ collect-spec =
     parse-requires
     enum-known-sum
     enum-told
+    bad-line-requires
     same-length
     same-length-2
     returns

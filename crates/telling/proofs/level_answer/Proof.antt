@@ -3,7 +3,7 @@
 use Rattle.pulse.specs.Pulse.{said}
 use Rattle.pulse.specs.declared.Level.the-variants.{Low, High, NoSuchClock}
 use borrow.Author.Needs.{needs}
-use Rattle.telling.proofs.Tells.{tells}
+use Rattle.answer.proofs.Tells.{tells}
 use Rattle.telling.proofs.level_answer.Statement.{statement}
 use Rattle.telling.proofs.level_answer.Tie as tie
 

@@ -3,7 +3,7 @@
 use Rattle.packer.specs.Packing.{said}
 use Rattle.packer.specs.declared.Packed.the-variants.{Done, NotGlyphs, TooManyPatterns, NoRoom}
 use borrow.Author.Needs.{needs}
-use Rattle.telling.proofs.Tells.{tells}
+use Rattle.answer.proofs.Tells.{tells}
 use Rattle.telling.proofs.packed_answer.Statement.{statement}
 use Rattle.telling.proofs.packed_answer.Tie as tie
 

@@ -3,7 +3,7 @@
 use Rattle.dac.specs.Play.{said}
 use Rattle.dac.specs.declared.Played.the-variants.{All, TooMany}
 use borrow.Author.Needs.{needs}
-use Rattle.telling.proofs.Tells.{tells}
+use Rattle.answer.proofs.Tells.{tells}
 use Rattle.telling.proofs.played_answer.Statement.{statement}
 use Rattle.telling.proofs.played_answer.Tie as tie
 
