@@ -1,7 +1,7 @@
 -- The reader's answers at a line of the record's shape, in the values that the code has: the eight-bit sum and the next line's place as
 -- parsed, and the record's bytes in the room for one record. Each is the verdict, or the next turn's start.
 -- Assumes nothing.
-use mathlib.Core.Path.{_≡_, refl, sym, _∙_, ap}
+use mathlib.Core.Path.{_≡_, sym, _∙_, ap}
 use mathlib.Core.Bool.{Bool, true, false}
 use mathlib.Core.List.{List, [], _∷_, _++_}
 use Prim.Native.Nat.{ℕ, _+_, _*_, _<_, _≤_}
@@ -19,16 +19,15 @@ use Rattle.laws.specs.Pick.{pick}
 use Rattle.laws.specs.Said.{accepted, refused}
 use Rattle.laws.specs.Lists.{tabulate, firstOf}
 use Rattle.laws.proofs.Lists.{first-most, tabulate-same}
-use Rattle.laws.proofs.Said.{said-by}
+use Rattle.laws.proofs.Said.{number-of, said-by}
 use Rattle.hex.specs.Lines.{bodyOf}
-use Rattle.hex.specs.Records.{firstBad, hasBad, records, isShaped, lengthOf, addressOf, typeOf, sumOf, isEnd, freshIn, faultOf, byteIn, gives, dataAt}
+use Rattle.hex.specs.Records.{hasBad, records, isShaped, lengthOf, addressOf, typeOf, sumOf, isEnd, freshIn, faultOf, byteIn, gives, dataAt}
 use Rattle.hex.specs.Reading.{said, faultSaid, verdict}
-use Rattle.hex.specs.Steps.{Collected, Parsed, Stored, recordAt, nextAt, lineAt, badLine, endedBy}
+use Rattle.hex.specs.Steps.{Collected, Parsed, Stored, recordAt, nextAt, lineAt, endedBy}
 use Rattle.hex.specs.declared.Line.{Line}
 use Rattle.hex.specs.declared.Line.the-variants.{Shaped, Unshaped}
 use Rattle.hex.specs.declared.Outcome.{Outcome}
-use Rattle.hex.specs.declared.Outcome.the-variants.{BadCharacter, BadShape}
-use Rattle.hex.proofs.Faults.{fault-shape, is-end, other-type, long-end, far-end, fault-sum, fault-type, fault-end, fault-past, fault-twice, fault-none}
+use Rattle.hex.proofs.Faults.{fault-told, fault-shape, is-end, other-type, long-end, far-end, fault-sum, fault-type, fault-end, fault-past, fault-twice, fault-none}
 use Rattle.hex.proofs.Steps.{ended-long, ended-far, ended-more, ended-done}
 use Rattle.hex.proofs.Shape.{shaped-fits}
 use Rattle.hex.proofs.Given.{front-at, in-append, in-one}
@@ -55,23 +54,7 @@ pub refused-by : {text scratch : List ℕ} {x : Outcome} {number place : ℕ} �
     → (said x .number ≡ number) × (said x .place ≡ place) × (said x .value ≡ 0) × (0 < number) → Collected text scratch x
 refused-by is (number, place, value, some) = record { says = said-by is number place value; held = λ e. absurd (omega arith) }
 
--- what is said of a line without the record's shape: by its bad character, or as a fault of its shape
-bad-said : (text : List ℕ) (at : ℕ) → said (badLine text at) ≡ faultSaid (bodyOf (drop at text)) at 20
-unfolding badLine faultSaid
-bad-said text at = go (hasBad (bodyOf (drop at text)))
-  where
-    go : (b : Bool) → said (pick b (BadCharacter (at + firstBad (bodyOf (drop at text)))) (BadShape at)) ≡ pick b (refused 19 (at + firstBad (bodyOf (drop at text)))) (refused 20 at)
-    go true = refl
-    go false = refl
-
-bad-refused : (text : List ℕ) (at : ℕ) → said (badLine text at) .number ≡ 0 → ⊥
-unfolding badLine
-bad-refused text at = go (hasBad (bodyOf (drop at text)))
-  where
-    go : (b : Bool) → said (pick b (BadCharacter (at + firstBad (bodyOf (drop at text)))) (BadShape at)) .number ≡ 0 → ⊥
-    go true e = omega arith
-    go false e = omega arith
-
+-- a line without a bad character is told by its record
 clean-said : (body : List ℕ) (place number : ℕ) → hasBad body ≡ false → faultSaid body place number ≡ refused number place
 unfolding faultSaid
 clean-said body place number clean = rw clean
@@ -84,13 +67,11 @@ module _ {text : List ℕ} {at count : ℕ} {scratch : List ℕ} (before : Passe
     pub meets : {sum next : ℕ} → r ≡ Shaped sum next → Met text at count scratch bytes sum next
     meets told = record { before = before; more = more; line = sym told ∙ parsed .line; front = parsed .front }
 
-    pub meets-none : {x : Outcome} → r ≡ Unshaped → x ≡ badLine text at → Collected text scratch x
+    pub meets-none : {x : Outcome} → r ≡ Unshaped → said x ≡ faultSaid (bodyOf (drop at text)) at 20 → Collected text scratch x
     meets-none told is =
         record {
-          says =
-              ap said is ∙ bad-said text at
-              ∙ sym (verdict-fault text at count scratch before more 20 (omega arith) (fault-shape _ _ (line-unshaped text at (sym told ∙ parsed .line))));
-          held = λ e. absurd (bad-refused text at (ap (λ x. said x .number) (sym is) ∙ e));
+          says = is ∙ sym (verdict-fault text at count scratch before more 20 (omega arith) (fault-shape _ _ (line-unshaped text at (sym told ∙ parsed .line))));
+          held = λ e. absurd (omega (arith, number-of is, fault-told (bodyOf (drop at text)) at 20 (omega arith)));
         }
 
 module _ {text : List ℕ} {at count : ℕ} {scratch bytes : List ℕ} {sum next : ℕ} (met : Met text at count scratch bytes sum next) where

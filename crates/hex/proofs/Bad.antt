@@ -10,11 +10,11 @@ use lib.ListN.{length, getD, take, drop}
 use lib.Seq.{getD-take, getD-drop, drop-drop}
 use borrow.Author.Count.{below-more}
 use borrow.Author.Tests.{lt-ltb}
+use Rattle.laws.specs.Said.{refused}
 use Rattle.laws.proofs.Lists.{first-is}
 use Rattle.hex.specs.Lines.{atEnd, bodyOf}
 use Rattle.hex.specs.Records.{belongs, firstBad, hasBad}
-use Rattle.hex.specs.Steps.{badLine}
-use Rattle.hex.specs.declared.Outcome.the-variants.{BadCharacter, BadShape}
+use Rattle.hex.specs.Reading.{faultSaid}
 use Rattle.hex.proofs.Lines.{body-cuts, body-goes, body-stops}
 use Rattle.hex.proofs.Shape.{each-belongs}
 
@@ -48,8 +48,8 @@ module _ {text : List ℕ} {at k : ℕ} (so-far : Searched text at k) where
   dropped j = drop-drop j at text
 
   -- an end stands there
-  pub search-ends : atEnd (drop (at + k) text) ≡ true → BadShape at ≡ badLine text at
-  unfolding badLine body
+  pub search-ends : atEnd (drop (at + k) text) ≡ true → refused 20 at ≡ faultSaid (bodyOf (drop at text)) at 20
+  unfolding faultSaid body
   search-ends ends =
       let short = body-stops k (drop at text) (ap atEnd (dropped k) ∙ ends) in
       let none : hasBad (bodyOf (drop at text)) ≡ false =
@@ -57,8 +57,8 @@ module _ {text : List ℕ} {at k : ℕ} (so-far : Searched text at k) where
       rw none
 
   -- a bad character does
-  pub search-finds : atEnd (drop (at + k) text) ≡ false → belongs k (getD text (at + k) 0) ≡ false → BadCharacter (at + k) ≡ badLine text at
-  unfolding badLine body
+  pub search-finds : atEnd (drop (at + k) text) ≡ false → belongs k (getD text (at + k) 0) ≡ false → refused 19 (at + k) ≡ faultSaid (bodyOf (drop at text)) at 20
+  unfolding faultSaid body
   search-finds no-end bad =
       let long : k + 1 ≤ length (bodyOf (drop at text)) =
       body-goes (k + 1) (drop at text) (λ j h. ap atEnd (dropped j) ∙ below-more (λ j. atEnd (drop (at + j) text) ≡ false) k (so-far .goes) no-end j h) in

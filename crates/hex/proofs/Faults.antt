@@ -1,16 +1,19 @@
 -- The table's tests of one record, one after the other: what each says where it is the first that fails, and that none does.
 -- Assumes nothing.
 use mathlib.Core.Path.{_≡_}
-use mathlib.Core.Bool.{true, false}
+use mathlib.Core.Bool.{Bool, true, false}
 use mathlib.Core.List.{List, []}
 use Prim.Native.Nat.{ℕ, _+_, _<_, _≤_}
 use native.Mathlib.Omega.{arith}
 use lib.Dec.{eqb}
 use lib.ListN.{length}
 use borrow.Author.Tests.{lt-ltb, le-ltb, eq-eqb, ne-eqb, eqb-true}
+use Rattle.laws.specs.Pick.{pick}
+use Rattle.laws.specs.Said.{refused}
 use Rattle.laws.specs.Lists.{firstOf}
 use Rattle.laws.proofs.Both.{both-parts}
-use Rattle.hex.specs.Records.{lengthOf, addressOf, typeOf, sumOf, isEnd, freshIn, faultOf}
+use Rattle.hex.specs.Records.{firstBad, hasBad, lengthOf, addressOf, typeOf, sumOf, isEnd, freshIn, faultOf}
+use Rattle.hex.specs.Reading.{faultSaid}
 
 pub is-end : (r : List ℕ) → typeOf r ≡ 1 → lengthOf r ≡ 0 → addressOf r ≡ 0 → isEnd r ≡ true
 unfolding isEnd
@@ -34,6 +37,15 @@ module _ (r : List ℕ) where
   pub far-end : typeOf r ≡ 1 → lengthOf r ≡ 0 → (addressOf r ≡ 0 → ⊥) → isEnd r ≡ false
   unfolding isEnd
   far-end t l a = simp (eq-eqb (typeOf r) 1 t, eq-eqb (lengthOf r) 0 l, ne-eqb (addressOf r) 0 a)
+
+-- a fault is told with a number, whatever its line has
+pub fault-told : (body : List ℕ) (place number : ℕ) → 0 < number → 0 < faultSaid body place number .number
+unfolding faultSaid
+fault-told body place number h = go (hasBad body)
+  where
+    go : (b : Bool) → 0 < pick b (refused 19 (place + firstBad body)) (refused number place) .number
+    go true = omega arith
+    go false = h
 
 pub fault-shape : (earlier : List (List ℕ)) (r : List ℕ) → r ≡ [] → faultOf earlier r ≡ 20
 unfolding faultOf

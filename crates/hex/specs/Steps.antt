@@ -14,12 +14,12 @@ use Rattle.laws.specs.Sums.{sumAll}
 use Rattle.image.specs.Image.{imageBytes, unused}
 use Rattle.hex.specs.Digits.{digit, isDigit, byteAt, bytesFrom}
 use Rattle.hex.specs.Lines.{lines, bodyOf, atEnd, LF}
-use Rattle.hex.specs.Records.{frame, firstBad, hasBad, isShaped, recordOf, records, byteIn, sumOf}
+use Rattle.hex.specs.Records.{frame, isShaped, recordOf, records, byteIn, sumOf}
 use Rattle.hex.specs.Reading.{mostText, said, verdict}
 use Rattle.hex.specs.declared.Line.{Line}
 use Rattle.hex.specs.declared.Line.the-variants.{Shaped, Unshaped}
 use Rattle.hex.specs.declared.Outcome.{Outcome}
-use Rattle.hex.specs.declared.Outcome.the-variants.{Done, BadCharacter, BadShape, BadType, BadEnd}
+use Rattle.hex.specs.declared.Outcome.the-variants.{Done, BadType, BadEnd}
 
 -- the bytes of the longest record
 abbrev pub recordMost : ℕ
@@ -60,12 +60,6 @@ nextAt text place = place + length (getD (lines (drop place text)) 0 [])
 
 unfoldable pub lineAt : List ℕ → ℕ → Line
 lineAt text place = pick (isShaped (bodyOf (drop place text))) (Shaped (sumOf (recordAt text place)) (nextAt text place)) Unshaped
-
--- what is answered at a line without the record's shape, which starts at a place
-unfoldable pub badLine : List ℕ → ℕ → Outcome
-badLine text place =
-    let body = bodyOf (drop place text) in
-    pick (hasBad body) (BadCharacter (place + firstBad body)) (BadShape place)
 
 -- what is answered at a record of the end record's type, with n bytes of data and an address, in the line at a place: by whether more text follows
 -- that line, after where it does, and what the records before it give

@@ -6,8 +6,9 @@ ghost use lib.ListN.{length, getD, drop};
 ghost use Rattle.laws.specs.Lists.{tabulate};
 ghost use Rattle.image.specs.Image.{imageBytes};
 ghost use Rattle.hex.specs.Records.{belongs as Records·belongs, addressOf};
-ghost use Rattle.hex.specs.Reading.{mostText, answerOf, leftOf, said};
-ghost use Rattle.hex.specs.Steps.{ToCollect, Collected, ToParse, Parsed, ToJudge, badLine, digitTable, ToDecode, Decoded, ToSpell, spelledAt, endedBy, ToStore, Stored, pastEnd, byteOf};
+ghost use Rattle.hex.specs.Lines.{bodyOf};
+ghost use Rattle.hex.specs.Reading.{mostText, faultSaid, answerOf, leftOf, said};
+ghost use Rattle.hex.specs.Steps.{ToCollect, Collected, ToParse, Parsed, ToJudge, digitTable, ToDecode, Decoded, ToSpell, spelledAt, endedBy, ToStore, Stored, pastEnd, byteOf};
 
 mod digits;
 
@@ -187,18 +188,18 @@ fn parse(digits: &[u8], text: &[u8], at: usize, bytes: &mut [u8]) -> Line
 // The answer at a line without the record's shape: its first bad character, or, where each is in its place, the line's start.
 fn bad_line(digits: &[u8], text: &[u8], at: usize) -> Outcome
     requires { ⌜ ToJudge (now digits) (now text) at ⌝ }
-    ensures { λ r. ⌜ r ≡ badLine (now (text .entry)) at ⌝ }
+    ensures { λ r. ⌜ said r ≡ faultSaid (bodyOf (drop at (now (text .entry)))) at 20 ⌝ }
 {
     let start = at as u32;
     let mut k = 0usize;
     while at + k < text.len() {
         let place = at + k;
+        let here = place as u32;
         if past_end(text, place) != 0 {
             return Outcome::BadShape(start);
         }
         if !belongs(digits, k, text[place]) {
-            let bad = place as u32;
-            return Outcome::BadCharacter(bad);
+            return Outcome::BadCharacter(here);
         }
         k += 1;
     }

@@ -15,18 +15,16 @@ use Rattle.laws.specs.Pick.{both, pick}
 use Rattle.laws.specs.Said.{Said, accepted, refused}
 use Rattle.font.specs.Font.{isFont, rowOf}
 use Rattle.image.specs.Image.{imageOf, fontOf, halfAt, dueAt, rowIn, lowAt, cellAt, rowAt, hasRow, leastAt, lacksAt, firstLack, answerOf}
-use Rattle.font.proofs.Each.{within-at, within-each}
+use Rattle.font.proofs.Each.{within-at, within-each, font-tests}
 use Rattle.laws.proofs.Both.{both-parts}
 use Rattle.laws.proofs.Lists.{length-tabulate, getD-tabulate, is-tabulate, first-none, first-before}
 
 -- a font's rows
 pub font-length : (font : List ℕ) → isFont font ≡ true → length font ≡ 1116
-unfolding isFont
-font-length font e = eqb-true (length font) 1116 (both-parts _ _ e .0)
+font-length font e = eqb-true (length font) 1116 (font-tests font e .0)
 
 pub font-row : (font : List ℕ) → isFont font ≡ true → (k : ℕ) → getD font k 0 ≤ 4095
-unfolding isFont
-font-row font e = within-at 4095 font (both-parts (eqb (length font) 1116) _ e .1)
+font-row font e = within-at 4095 font (font-tests font e .1)
 
 -- an address from its cell and row, in the first half and in the second, and back
 module _ (c l : ℕ) (hc : c < 62) (hl : l < 18) where

@@ -5,7 +5,6 @@ use Rattle.laws.specs.Lines.{firstShown, anyOf}
 use Rattle.laws.specs.Lists.{tabulate}
 use Rattle.laws.specs.Placing.{cellHas}
 use Rattle.laws.specs.Within.{within}
-use Rattle.font.specs.Font.{isFont}
 use Rattle.display.specs.Words.{kindOf, kindsOf}
 use Rattle.judging.specs.Judging.{answerOf}
 use Rattle.display.specs.Cells.{kindCell, afterWord, cellsFrom}
@@ -14,13 +13,13 @@ use Rattle.display.specs.Painting.{dotOf, leftBy}
 use Rattle.pictures.specs.Example.{Example, ShadowExample, BlinkExample}
 
 pub example : Example
-unfolding kindOf kindsOf leftBy dotOf dotAt firstShown cellHas cellsFrom kindCell afterWord shadowOf anyOf shownDot tabulate answerOf within isFont
+unfolding kindOf kindsOf leftBy dotOf dotAt firstShown cellHas cellsFrom kindCell afterWord shadowOf anyOf shownDot tabulate answerOf within
 example = (refl, (refl, (refl, refl)))
 
 pub shadow-example : ShadowExample
-unfolding kindOf kindsOf leftBy dotOf dotAt firstShown cellHas cellsFrom kindCell afterWord shadowOf anyOf shownDot tabulate answerOf within isFont
+unfolding kindOf kindsOf leftBy dotOf dotAt firstShown cellHas cellsFrom kindCell afterWord shadowOf anyOf shownDot tabulate answerOf within
 shadow-example = (refl, (refl, (refl, (refl, refl))))
 
 pub blink-example : BlinkExample
-unfolding kindOf kindsOf leftBy dotOf dotAt firstShown cellHas cellsFrom kindCell afterWord shadowOf anyOf shownDot tabulate answerOf within isFont
+unfolding kindOf kindsOf leftBy dotOf dotAt firstShown cellHas cellsFrom kindCell afterWord shadowOf anyOf shownDot tabulate answerOf within
 blink-example = (refl, (refl, refl))

@@ -17,7 +17,7 @@ use Rattle.laws.proofs.Counts.{count-most, count-before, count-weaker, count-ap
 use Rattle.laws.proofs.Lists.{length-tabulate, getD-tabulate}
 use Rattle.laws.proofs.Tests.{upto-at}
 use Rattle.font.specs.Font.{cellRows, cellColumns, fontRows, mostRow, isFont, rowOf, bitSet, fontDot}
-use Rattle.font.proofs.Each.{within-each}
+use Rattle.font.proofs.Each.{within-each, font-tests}
 use Rattle.display.specs.Cells.{kindCell, afterWord, cellsFrom}
 use Rattle.display.specs.Picture.{shownDot, dotAt}
 use Rattle.display.specs.Painting.{dotOf, lineOf}
@@ -134,7 +134,7 @@ packed font cells room places = rw (are-glyphs 61 below, patterns 61 below, how-
 -- a call with right words and a font is accepted
 taken : (words font : List ℕ) → areWords words ≡ true → isFont font ≡ true → paintAnswer words font settings (record { 0 = 0 }) (record { 0 = 14 }) 16 .number ≡ 0
 unfolding paintAnswer
-taken words font are is = rw (are, is)
+taken words font are is = rw (are, font-tests font is .0, font-tests font is .1)
 
 pub example : Examples
 example font cells room places =

@@ -12,6 +12,7 @@ use lib.ListN.{length, drop, length-map}
 use Rattle.laws.specs.Within.{within}
 use Rattle.laws.proofs.Both.{both-parts}
 use Rattle.font.specs.Font.{isFont, cellRows, cellColumns, fontDot}
+use Rattle.font.proofs.Each.{font-tests}
 use Rattle.port.specs.Port.{wordOf}
 use Rattle.units.specs.declared.Dots.{Dots}
 use Rattle.units.specs.declared.Lines.{Lines}
@@ -181,7 +182,10 @@ module _ (glyphs font : List ℕ) (cell : ℕ → ℕ) (by : ShownBy glyphs font
       answers : (right any : List ℕ) → areWords right ≡ true → isFont any ≡ true
           → (s : Settings) (line : Lines) (width : Dots) (room : ℕ) → answerOf ws font s line width room ≡ answerOf right any s line width room
       unfolding answerOf
-      answers right any are-right is-any s line width room = rw (are, by .font-is, are-right, is-any)
+      answers right any are-right is-any s line width room =
+          let tests = font-tests font (by .font-is) in
+          let any-tests = font-tests any is-any in
+          rw (are, tests .0, tests .1, are-right, any-tests .0, any-tests .1)
 
       -- the line of the words is that of the glyphs
       same : (s : Settings) (frame : ℕ) (line : Lines) (width : Dots)

@@ -9,14 +9,15 @@ use native.Mathlib.Nat.{le-of-suc-le-suc, not-suc-le-zero}
 use native.Mathlib.Omega.{arith}
 use lib.Dec.{eqb, ltb}
 use lib.ListN.{length, getD}
-use borrow.Author.Tests.{lt-ltb, ne-eqb, eq-eqb, eqb-true}
+use borrow.Author.Tests.{ne-eqb, eqb-true}
 use Rattle.laws.specs.Pick.{pick}
 use Rattle.laws.proofs.Tests.{upto-at}
 use Rattle.laws.specs.Lists.{tabulate}
 use Rattle.laws.proofs.Lists.{is-tabulate}
 use Rattle.hex.specs.Digits.{digit, byteAt}
 use Rattle.hex.specs.Lines.{lines, atEnd, bodyOf, LF}
-use Rattle.hex.specs.Records.{colon, allDigits, isShaped, spelledBy, recordOf, lengthOf}
+use Rattle.hex.specs.Records.{colon, belongs, isShaped, spelledBy, recordOf, lengthOf}
+use Rattle.hex.proofs.Shape.{first-colon, later-digit, each-belongs, fits-shaped}
 use Rattle.writer.specs.Text.{digitText, bytesText, recordText}
 use Rattle.writer.proofs.Spelling.{bytes-length}
 
@@ -61,16 +62,15 @@ body-bytes (b ∷ bytes) =
 abbrev pub Small : List ℕ → Type 0
 Small l = (i : ℕ) → getD l i 0 < 256
 
--- its digits spell the bytes
-digits-bytes : (bytes : List ℕ) → Small bytes → allDigits (bytesText bytes) ≡ true
-unfolding allDigits flatMap
-digits-bytes [] small = refl
-digits-bytes (b ∷ bytes) small =
+-- its characters are digits, which spell the bytes
+digits-bytes : (bytes : List ℕ) → Small bytes → (k : ℕ) → k < length (bytesText bytes) → digit (getD (bytesText bytes) k 0) < 16
+unfolding flatMap
+digits-bytes [] small k h = absurd (not-suc-le-zero h)
+digits-bytes (b ∷ bytes) small zero h =
     let here = small 0 in
-    let high = digit-back (b / 16) (omega arith) in
-    let low = digit-back (b % 16) (omega arith) in
-    simp (lt-ltb (digit (digitText (b / 16))) 16 (omega arith), lt-ltb (digit (digitText (b % 16))) 16 (omega arith))
-    (digits-bytes bytes (λ i. small (suc i)))
+    omega (arith, digit-back (b / 16) (omega arith))
+digits-bytes (b ∷ bytes) small (suc zero) h = omega (arith, digit-back (b % 16) (omega arith))
+digits-bytes (b ∷ bytes) small (suc (suc k)) h = digits-bytes bytes (λ i. small (suc i)) k (le-of-suc-le-suc (le-of-suc-le-suc h))
 
 -- byte i of them
 byte-back : (bytes : List ℕ) → Small bytes → (i : ℕ) → i < length bytes → byteAt (bytesText bytes) (2 * i) ≡ getD bytes i 0
@@ -98,11 +98,16 @@ module _ (r : List ℕ) (good : IsRecord r) where
       let two : suc (2 * i) + 1 ≡ suc (2 * i + 1) = omega arith in
       rw (one, two) (byte-back r (good .small) i h)
 
+  all-belong : (k : ℕ) → k < suc (length (bytesText r)) → belongs k (getD (colon ∷ bytesText r) k 0) ≡ true
+  all-belong zero h = first-colon colon refl
+  all-belong (suc k) h =
+      let one : suc k ≡ 1 + k = omega arith in
+      ap (λ n. belongs n (getD (bytesText r) k 0)) one ∙ later-digit k (getD (bytesText r) k 0) (digits-bytes r (good .small) k (le-of-suc-le-suc h))
+
   colon-shaped : isShaped (colon ∷ bytesText r) ≡ true
-  unfolding isShaped
   colon-shaped =
       let asked = colon-byte 0 (omega (arith, good .size)) in
-      simp (digits-bytes r (good .small), eq-eqb (suc (length (bytesText r))) (1 + 2 * (5 + byteAt (colon ∷ bytesText r) 1)) (omega (arith, asked, good .size, bytes-length r)))
+      fits-shaped (colon ∷ bytesText r) (record { clean = each-belongs (colon ∷ bytesText r) all-belong; size = omega (arith, asked, good .size, bytes-length r) })
 
   pub line-spells : recordOf (recordText r) ≡ r
   unfolding recordText bodyOf atEnd spelledBy

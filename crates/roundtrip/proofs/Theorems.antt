@@ -13,6 +13,7 @@ use borrow.Author.Tests.{le-ltb}
 use Rattle.laws.specs.Pick.{pick}
 use Rattle.laws.specs.Said.{accepted}
 use Rattle.font.specs.Font.{isFont, rowOf}
+use Rattle.font.proofs.Each.{font-tests}
 use Rattle.laws.specs.Lists.{tabulate}
 use Rattle.image.specs.Image.{imageOf, fontOf, halfAt, dueAt, hasRow, cellAt, rowAt}
 use Rattle.image.specs.Image as turning
@@ -75,7 +76,7 @@ module _ (font : List ℕ) (e : isFont font ≡ true) where
   module _ (text : List ℕ) (fits : 22540 ≤ length text) where
     font-accepted : writing.answerOf font (length text) ≡ accepted 0
     unfolding writing.answerOf
-    font-accepted = rw (e, le-ltb (length text) 22540 fits)
+    font-accepted = rw (font-tests font e .0, font-tests font e .1, le-ltb (length text) 22540 fits)
 
     font-written : writtenIn font text ≡ textOf (imageOf font)
     unfolding writing.leftOf

@@ -19,9 +19,10 @@ use Rattle.laws.specs.Lists.{tabulate, firstOf}
 use Rattle.laws.proofs.Lists.{first-is, first-none, first-before, first-at, first-most, tabulate-same}
 use Rattle.laws.proofs.Placing.{span-has, span-in}
 use Rattle.laws.proofs.Said.{number-of}
-use Rattle.hex.specs.Lines.{lines, placeOf}
+use Rattle.hex.specs.Lines.{lines, bodyOf, placeOf}
 use Rattle.hex.specs.Records.{records, lengthOf, addressOf, typeOf, sumOf, isEnd, gives, dataAt, byteIn, isGiven, freshIn, countOf, faultOf}
-use Rattle.hex.specs.Reading.{nth, faultAt, stopsAt, stopOf, judged, verdict, imageIn}
+use Rattle.hex.specs.Reading.{nth, faultAt, stopsAt, stopOf, faultSaid, judged, verdict, imageIn}
+use Rattle.hex.proofs.Faults.{fault-told}
 use Rattle.hex.proofs.Given.{in-none}
 use Rattle.textlaws.specs.Laws.{Reordered}
 
@@ -46,7 +47,7 @@ module _ (es : List (List ℕ)) (r : List ℕ) where
     where
       go : (a : Bool) → eqb (length r) 0 ≡ a → (b : Bool) → eqb (sumOf r) 0 ≡ b → (t : Bool) → pick (isEnd r) true (eqb (typeOf r) 0) ≡ t
           → (p : Bool) → ltb 8192 (addressOf r + lengthOf r) ≡ p → (f : Bool) → ltb (freshIn es r) (lengthOf r) ≡ f
-          → _≡_ {A = ℕ} (pick a 7 (pick (not b) 8 (pick (not t) 9 (pick p 10 (pick f 11 0))))) 0 → Fine r × (lengthOf r ≤ freshIn es r)
+          → _≡_ {A = ℕ} (pick a 20 (pick (not b) 8 (pick (not t) 9 (pick p 10 (pick f 11 0))))) 0 → Fine r × (lengthOf r ≤ freshIn es r)
       go true ea b eb t et p ep f ef e = absurd (omega arith)
       go false ea false eb t et p ep f ef e = absurd (omega arith)
       go false ea true eb false et p ep f ef e = absurd (omega arith)
@@ -160,11 +161,12 @@ good-of text n e =
 
     go : (a : Bool) → ltb (stopOf (records text)) (length (records text)) ≡ a → (f : Bool) → ltb 0 (faultAt (records text) (stopOf (records text))) ≡ f
         → (l : Bool) → ltb (stopOf (records text) + 1) (length (records text)) ≡ l
-        → pick a (pick f (refused (faultAt (records text) (stopOf (records text))) (placeOf (lines text) (stopOf (records text))))
+        → pick a (pick f (faultSaid (bodyOf (nth (lines text) (stopOf (records text)))) (placeOf (lines text) (stopOf (records text))) (faultAt (records text) (stopOf (records text))))
         (pick l (refused 12 (placeOf (lines text) (stopOf (records text) + 1))) (accepted (countOf (records text))))) (refused 12 (placeOf (lines text) (stopOf (records text)))) ≡ accepted n
         → Good (records text)
     go false ea f ef l el e = absurd (omega (arith, number-of e))
-    go true ea true ef l el e = absurd (omega (arith, number-of e, ltb-true 0 (faultAt (records text) (stopOf (records text))) ef))
+    go true ea true ef l el e =
+        absurd (omega (arith, number-of e, fault-told (bodyOf (nth (lines text) (stopOf (records text)))) (placeOf (lines text) (stopOf (records text))) _ (ltb-true 0 (faultAt (records text) (stopOf (records text))) ef)))
     go true ea false ef true el e = absurd (omega (arith, number-of e))
     go true ea false ef false el e =
         let below : stopOf (records text) < length (records text) = ltb-true _ _ ea in

@@ -2,23 +2,23 @@
 -- and two accepted texts with the same records, in whatever order, have the same image.
 -- Assumes nothing.
 use mathlib.Core.Path.{_≡_, refl, sym, _∙_, ap}
-use mathlib.Core.Bool.{Bool, true, false}
+use mathlib.Core.Bool.{Bool, true, false, not}
 use mathlib.Core.List.{List, [], _∷_}
-use Prim.Native.Nat.{ℕ, zero, suc, _+_, _-_, _*_, _<_}
+use Prim.Native.Nat.{ℕ, zero, suc, _+_, _*_, _<_}
 use native.Mathlib.Omega.{arith}
 use lib.Dec.{ltb}
-use lib.ListN.{length, getD, drop, length-drop}
-use lib.Seq.{getD-drop}
-use borrow.Author.Tests.{ltb-true}
+use lib.ListN.{length, getD}
+use borrow.Author.Tests.{ltb-true, ne-eqb}
 use Rattle.laws.specs.Pick.{pick}
 use Rattle.laws.specs.Said.{accepted, refused}
-use Rattle.laws.specs.Lists.{tabulate}
-use Rattle.laws.proofs.Lists.{tabulate-same}
+use Rattle.laws.specs.Lists.{tabulate, firstOf}
+use Rattle.laws.proofs.Lists.{tabulate-same, first-same}
 use Rattle.laws.proofs.Said.{number-of}
 use Rattle.hex.specs.Digits.{digit, byteAt}
-use Rattle.hex.specs.Lines.{lines, placeOf}
-use Rattle.hex.specs.Records.{records, spelledBy, isShaped, allDigits, byteIn, countOf}
-use Rattle.hex.specs.Reading.{faultAt, stopOf, judged}
+use Rattle.hex.specs.Lines.{lines, bodyOf, placeOf}
+use Rattle.hex.specs.Records.{belongs, firstBad, records, spelledBy, isShaped, byteIn, countOf}
+use Rattle.hex.specs.Reading.{nth, faultAt, stopOf, faultSaid, judged}
+use Rattle.hex.proofs.Faults.{fault-told}
 use Rattle.textlaws.specs.Alike.{AlikeBodies}
 use Rattle.textlaws.specs.Laws.{SameVerdict, SameImage, CasesAlike, AlikeSpells}
 
@@ -28,9 +28,9 @@ unfolding judged
 judged-same ls ls′ rs k n e = go (ltb k (length rs)) (ltb 0 (faultAt rs k)) refl (ltb (k + 1) (length rs)) e
   where
     go : (a f : Bool) → ltb 0 (faultAt rs k) ≡ f → (l : Bool)
-        → pick a (pick f (refused (faultAt rs k) (placeOf ls k)) (pick l (refused 12 (placeOf ls (k + 1))) (accepted (countOf rs)))) (refused 12 (placeOf ls k)) ≡ accepted n
-        → pick a (pick f (refused (faultAt rs k) (placeOf ls′ k)) (pick l (refused 12 (placeOf ls′ (k + 1))) (accepted (countOf rs)))) (refused 12 (placeOf ls′ k)) ≡ accepted n
-    go true true h l e = absurd (omega (arith, number-of e, ltb-true 0 (faultAt rs k) h))
+        → pick a (pick f (faultSaid (bodyOf (nth ls k)) (placeOf ls k) (faultAt rs k)) (pick l (refused 12 (placeOf ls (k + 1))) (accepted (countOf rs)))) (refused 12 (placeOf ls k)) ≡ accepted n
+        → pick a (pick f (faultSaid (bodyOf (nth ls′ k)) (placeOf ls′ k) (faultAt rs k)) (pick l (refused 12 (placeOf ls′ (k + 1))) (accepted (countOf rs)))) (refused 12 (placeOf ls′ k)) ≡ accepted n
+    go true true h l e = absurd (omega (arith, number-of e, fault-told (bodyOf (nth ls k)) (placeOf ls k) (faultAt rs k) (ltb-true 0 (faultAt rs k) h)))
     go true false h true e = absurd (omega (arith, number-of e))
     go true false h false e = e
     go false f h l e = absurd (omega (arith, number-of e))
@@ -44,29 +44,25 @@ same-verdict text text′ n e h =
 pub same-image : SameImage
 same-image text text′ e = ap (λ (rs : List (List ℕ)). tabulate 8192 (byteIn 255 rs)) e
 
-all-alike : (l l′ : List ℕ) → length l ≡ length l′ → ((k : ℕ) → digit (getD l k 0) ≡ digit (getD l′ k 0)) → allDigits l ≡ allDigits l′
-unfolding allDigits
-all-alike [] [] e h = refl
-all-alike [] (c ∷ l′) e h = absurd (omega arith)
-all-alike (c ∷ l) [] e h = absurd (omega arith)
-all-alike (c ∷ l) (c′ ∷ l′) e h = rw (h 0, all-alike l l′ (omega arith) (λ k. h (suc k)))
-
 module _ (body body′ : List ℕ) (alike : AlikeBodies body body′) where
   bytes-alike : (k : ℕ) → byteAt body (1 + k) ≡ byteAt body′ (1 + k)
   bytes-alike k =
       let e : 1 + k + 1 ≡ 1 + (k + 1) = omega arith in
       rw (alike .digits k, e, alike .digits (k + 1))
 
+  belongs-alike : (k : ℕ) → belongs k (getD body k 0) ≡ belongs k (getD body′ k 0)
+  unfolding belongs
+  belongs-alike zero = rw (alike .first)
+  belongs-alike (suc k) =
+      let one : suc k ≡ 1 + k = omega arith in
+      rw (one, ne-eqb (1 + k) 0 (omega arith), alike .digits k)
+
   shaped-alike : isShaped body ≡ isShaped body′
   unfolding isShaped
   shaped-alike =
-      rw (
-        alike .first,
-        alike .size,
-        bytes-alike 0,
-        all-alike (drop 1 body) (drop 1 body′) (length-drop 1 body ∙ ap (λ n. n - 1) (alike .size) ∙ sym (length-drop 1 body′))
-            (λ k. ap digit (getD-drop 1 body k 0) ∙ alike .digits k ∙ sym (ap digit (getD-drop 1 body′ k 0))),
-      )
+      let same : firstBad body ≡ firstBad body′ =
+      ap (λ n. firstOf n (λ k. not (belongs k (getD body k 0)))) (alike .size) ∙ first-same (length body′) _ _ (λ k h. ap not (belongs-alike k)) in
+      rw (same, alike .size, bytes-alike 0)
 
   -- they are the same record
   one-record : spelledBy body ≡ spelledBy body′
