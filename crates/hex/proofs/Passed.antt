@@ -69,7 +69,8 @@ line-unshaped text at e = go (isShaped (bodyOf (drop at text))) e
     go true e = absurd (not-shaped _ _ (sym e))
     go false e = refl
 
-record-nil : recordOf [] ≡ []
+-- no line, no record
+pub record-nil : recordOf [] ≡ []
 unfolding spelledBy isShaped bodyOf firstOf digit
 record-nil = refl
 

@@ -32,6 +32,12 @@ pub fails-unless : (t : Bool) → (t ≡ true → ⊥) → t ≡ false
 fails-unless true none = absurd (none refl)
 fails-unless false none = refl
 
+-- tests that hold together are one
+pub same-tests : (s t : Bool) → (s ≡ true → t ≡ true) → (t ≡ true → s ≡ true) → s ≡ t
+same-tests true t to from = sym (to refl)
+same-tests false true to from = from refl
+same-tests false false to from = refl
+
 -- what is chosen matters only where the test holds
 pub pick-where : {A : Type 0} (t : Bool) (a b c : A) → (t ≡ true → a ≡ b) → pick t a c ≡ pick t b c
 pick-where true a b c same = same refl

@@ -13,17 +13,11 @@ use lib.Dec.{leb}
 use lib.ListN.{getD}
 use Rattle.laws.specs.Pick.{both}
 use Rattle.laws.specs.Lists.{upto}
-use Rattle.laws.proofs.Both.{both-parts}
+use Rattle.laws.proofs.Both.{both-parts, same-tests}
 use Rattle.laws.proofs.Scan.{or-above}
 use Rattle.laws.proofs.Tests.{upto-at, upto-all}
 use Rattle.font.specs.Font.{cellRows, mostRow}
 use Rattle.packer.specs.Steps.{twoAt, fourAt, narrowAt, partsNarrow}
-
--- two tests that hold at the same time are equal
-both-ways : (s t : Bool) → (s ≡ true → t ≡ true) → (t ≡ true → s ≡ true) → s ≡ t
-both-ways true t f g = sym (f refl)
-both-ways false true f g = g refl
-both-ways false false f g = refl
 
 -- a number of four parts
 abbrev parts : ℕ → ℕ → ℕ → ℕ → ℕ
@@ -231,7 +225,7 @@ module _ (glyphs : List ℕ) (fits : (k : ℕ) → getD glyphs k 0 < 65536) (at 
   pub narrow-all : partsNarrow (bitOr (bitOr (bitOr (fourAt glyphs at) (fourAt glyphs (at + 4))) (bitOr (fourAt glyphs (at + 8)) (fourAt glyphs (at + 12)))) (twoAt glyphs (at + 16)))
       ≡ narrowAt glyphs at
   unfolding narrowAt
-  narrow-all = both-ways _ _ there back
+  narrow-all = same-tests _ _ there back
     where
       there : partsNarrow (bitOr (bitOr (bitOr (fourAt glyphs at) (fourAt glyphs (at + 4))) (bitOr (fourAt glyphs (at + 8)) (fourAt glyphs (at + 12)))) (twoAt glyphs (at + 16))) ≡ true
           → upto cellRows (λ l. leb (getD glyphs (at + l) 0) mostRow) ≡ true

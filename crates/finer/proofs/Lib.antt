@@ -1,0 +1,4 @@
+pub mod Split
+pub mod Texts
+pub mod Pointed
+pub mod Worked

@@ -1,0 +1,3 @@
+pub mod Document01
+pub mod Claims
+pub mod Examples
