@@ -93,6 +93,13 @@ static int write_picture(const struct picture *picture, const char *path, bool t
     return close_output(&output, DONE);
 }
 
+static int refused_picture(dirgeflint_answer answer)
+{
+    if (answer.number == DIRGEFLINT_FONT_LENGTH || answer.number == DIRGEFLINT_BAD_ROW)
+        return refused_font(answer);
+    return refused(PROGRAM, 0, answer, "the picture: %s", dirgeflint_reason(answer.number));
+}
+
 static int paint_scene(const struct scene *scene, struct picture *picture, const char *path, bool text)
 {
     dirgeflint_answer answer = measure(scene, picture);
@@ -101,8 +108,7 @@ static int paint_scene(const struct scene *scene, struct picture *picture, const
         return file_trouble("the picture", "painted");
     if (answer.number == DIRGEFLINT_ACCEPTED)
         answer = paint_picture(scene, picture);
-    int status = answer.number == DIRGEFLINT_ACCEPTED ? write_picture(picture, path, text)
-                                                       : refused(PROGRAM, 0, answer, "the picture: %s", dirgeflint_reason(answer.number));
+    int status = answer.number == DIRGEFLINT_ACCEPTED ? write_picture(picture, path, text) : refused_picture(answer);
     free(picture->dots);
     return status;
 }
