@@ -3,6 +3,7 @@
 #include <stdio.h>
 
 #include "lines.h"
+#include "point.h"
 #include "record.h"
 #include "say.h"
 
@@ -22,17 +23,9 @@ static const char *explain_start(struct slice text)
 
 static void explain_shape(const struct record *record, struct slice line, char room[REASON])
 {
-    char bad[SHOWN];
-    struct slice first = { line.start, 1 }, digit = { line.start + record->bad, 1 };
     switch (record->shape) {
     case EMPTY:
         snprintf(room, REASON, "the line is empty: remove it");
-        break;
-    case NO_COLON:
-        snprintf(room, REASON, "column 1: %s stands where a record has its colon", shown(first, bad));
-        break;
-    case NO_DIGIT:
-        snprintf(room, REASON, "column %zu: %s is no hexadecimal digit", record->bad + 1, shown(digit, bad));
         break;
     case ODD_DIGITS:
         snprintf(room, REASON, "an odd number of digits, %zu: each byte has two", line.length - 1);
@@ -44,6 +37,7 @@ static void explain_shape(const struct record *record, struct slice line, char r
             snprintf(room, REASON, "length %02X asks for %d bytes in all, and the line has %zu", (unsigned)record->bytes[0],
                      record->bytes[0] + AROUND_DATA, record->count);
         break;
+    case BAD_CHARACTER:
     case WHOLE:
         break;
     }
@@ -86,12 +80,9 @@ static void explain_twice(const struct record *record, struct slice before, char
 
 static void explain_record(struct slice text, dirgeflint_answer answer, char room[REASON])
 {
-    struct lines lines = { without_first(text, answer.place), 0 };
-    struct slice line, before = { text.start, answer.place };
-    if (!next_line(&lines, &line))
-        return;
+    struct slice line = line_at(text, answer.place), before = { text.start, answer.place };
     struct record record = read_record(line);
-    if (answer.number == DIRGEFLINT_BAD_SHAPE)
+    if (answer.number == DIRGEFLINT_NO_RECORD)
         explain_shape(&record, line, room);
     if (record.shape != WHOLE)
         return;
@@ -102,6 +93,18 @@ static void explain_record(struct slice text, dirgeflint_answer answer, char roo
     case DIRGEFLINT_GIVEN_TWICE: explain_twice(&record, before, room); break;
     default: break;
     }
+}
+
+/* The library has found the character: its line is shown, with a mark under it. */
+static int explain_character(const struct input *input, dirgeflint_answer answer)
+{
+    char room[SHOWN];
+    struct slice line = line_at(input->text, answer.place), bad = { input->text.start + answer.place, 1 };
+    size_t number = line_number(input->text, answer.place), place = (size_t)(bad.start - line.start);
+    int status = refused(input->name, number, answer, "record %zu: column %zu: %s %s", number, place + 1, shown(bad, room),
+                         place == 0 ? "stands where a record has its colon" : "is no hexadecimal digit");
+    point_at(line, place);
+    return status;
 }
 
 static int explain_end(const struct input *input, dirgeflint_answer answer)
@@ -161,16 +164,20 @@ static int explain_image(const struct input *input, dirgeflint_answer answer, co
 
 int explain_refusal(const struct input *input, dirgeflint_answer answer, const uint8_t *image)
 {
-    if (input->text.length > DIRGEFLINT_MOST_TEXT)
+    if (answer.number == DIRGEFLINT_TEXT_TOO_LONG)
         return refused(input->name, 0, answer, "the text has more than %d bytes: leave out what is no record, or write longer records", (int)DIRGEFLINT_MOST_TEXT);
     if (answer.number == DIRGEFLINT_BAD_END && answer.place <= input->text.length)
         return explain_end(input, answer);
     if (answer.number == DIRGEFLINT_NO_FONT)
         return explain_image(input, answer, image);
     char found[REASON] = "";
-    if (answer.place < input->text.length)
+    const char *start = explain_start(input->text);
+    bool inside = answer.place < input->text.length;
+    if (start == NULL && inside && answer.number == DIRGEFLINT_BAD_CHARACTER)
+        return explain_character(input, answer);
+    if (inside)
         explain_record(input->text, answer, found);
-    const char *start = explain_start(input->text), *reason = start != NULL ? start : found[0] != '\0' ? found : dirgeflint_reason(answer.number);
+    const char *reason = start != NULL ? start : found[0] != '\0' ? found : dirgeflint_reason(answer.number);
     size_t line = line_number(input->text, answer.place);
     return refused(input->name, line, answer, "record %zu: %s", line, reason);
 }

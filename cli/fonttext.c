@@ -44,12 +44,19 @@ int load_font(const char *path, bool whole, struct font *font)
     return status;
 }
 
+int refused_font(dirgeflint_answer answer)
+{
+    const char *reason = dirgeflint_reason(answer.number);
+    unsigned long cell = answer.place / DIRGEFLINT_CELL_ROWS, row = answer.place % DIRGEFLINT_CELL_ROWS;
+    if (answer.number == DIRGEFLINT_BAD_ROW)
+        return refused(PROGRAM, 0, answer, "the font: cell %lu row %lu: %s", cell, row, reason);
+    return refused(PROGRAM, 0, answer, "the font: %s", reason);
+}
+
 int make_text(const uint16_t rows[DIRGEFLINT_FONT_ROWS], uint8_t text[DIRGEFLINT_TEXT_BYTES])
 {
     dirgeflint_answer answer = dirgeflint_hex_write(rows, DIRGEFLINT_FONT_ROWS, text, DIRGEFLINT_TEXT_BYTES);
-    if (answer.number != DIRGEFLINT_ACCEPTED)
-        return refused(PROGRAM, 0, answer, "the font: %s", dirgeflint_reason(answer.number));
-    return DONE;
+    return answer.number == DIRGEFLINT_ACCEPTED ? DONE : refused_font(answer);
 }
 
 uint32_t sum_of_text(const uint8_t text[DIRGEFLINT_TEXT_BYTES])

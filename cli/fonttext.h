@@ -12,6 +12,9 @@ struct font {
 /* Reads a font; gives the status. A text that does not give every byte is warned of, or is bad input if it has to be whole. */
 int load_font(const char *path, bool whole, struct font *font);
 
+/* Says that the library refused a font, and at which cell and row if one of its rows is bad; gives the status. */
+int refused_font(dirgeflint_answer answer);
+
 /* Makes the text of a font, as it is written to files; gives the status. */
 int make_text(const uint16_t rows[DIRGEFLINT_FONT_ROWS], uint8_t text[DIRGEFLINT_TEXT_BYTES]);
 

@@ -22,6 +22,17 @@ bool next_line(struct lines *lines, struct slice *line)
     return true;
 }
 
+struct slice line_at(struct slice text, size_t place)
+{
+    size_t start = place;
+    while (start > 0 && text.start[start - 1] != '\n')
+        start--;
+    struct lines lines = { without_first(text, start), 0 };
+    struct slice line = { lines.rest.start, 0 };
+    next_line(&lines, &line);
+    return line;
+}
+
 size_t line_number(struct slice text, size_t place)
 {
     size_t number = 1;

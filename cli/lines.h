@@ -13,7 +13,8 @@ struct lines {
 /* The next line, without its end, which is LF or CR LF and may be missing from the last. False if there is none. */
 bool next_line(struct lines *lines, struct slice *line);
 
-/* The number of the line that holds this place of the text. */
+/* The line that holds this place of the text, without its end, and its number. */
+struct slice line_at(struct slice text, size_t place);
 size_t line_number(struct slice text, size_t place);
 
 /* Spaces and tabs at the end are taken off. */

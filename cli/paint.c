@@ -70,6 +70,13 @@ static bool is_to_blame(const uint32_t numbers[NUMBERS], int option, dirgeflint_
     return try_numbers(alone).number == answer.number;
 }
 
+static int refused_picture(dirgeflint_answer answer)
+{
+    if (answer.number == DIRGEFLINT_FONT_LENGTH || answer.number == DIRGEFLINT_BAD_ROW)
+        return refused_font(answer);
+    return refused(PROGRAM, 0, answer, "the picture: %s", dirgeflint_reason(answer.number));
+}
+
 static int judge_numbers(const struct option options[OPTIONS], const uint32_t numbers[NUMBERS])
 {
     dirgeflint_answer answer = try_numbers(numbers);
@@ -78,7 +85,7 @@ static int judge_numbers(const struct option options[OPTIONS], const uint32_t nu
     for (int i = 0; i < NUMBERS; i++)
         if (options[i].value != NULL && is_to_blame(numbers, i, answer))
             return refused(PROGRAM, 0, answer, "%s %s: %s", options[i].name, options[i].value, ranges[i]);
-    return refused(PROGRAM, 0, answer, "%s", dirgeflint_reason(answer.number));
+    return refused_picture(answer);
 }
 
 static int write_picture(const struct picture *picture, const char *path, bool text)
@@ -101,8 +108,7 @@ static int paint_scene(const struct scene *scene, struct picture *picture, const
         return file_trouble("the picture", "painted");
     if (answer.number == DIRGEFLINT_ACCEPTED)
         answer = paint_picture(scene, picture);
-    int status = answer.number == DIRGEFLINT_ACCEPTED ? write_picture(picture, path, text)
-                                                       : refused(PROGRAM, 0, answer, "the picture: %s", dirgeflint_reason(answer.number));
+    int status = answer.number == DIRGEFLINT_ACCEPTED ? write_picture(picture, path, text) : refused_picture(answer);
     free(picture->dots);
     return status;
 }

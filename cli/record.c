@@ -10,9 +10,8 @@ static enum shape read_digits(struct slice line, struct record *record)
 {
     for (size_t i = 1; i < line.length; i++) {
         int digit = digit_value(line.start[i]);
-        record->bad = i;
         if (digit < 0)
-            return NO_DIGIT;
+            return BAD_CHARACTER;
         size_t place = (i - 1) / 2;
         if (place < MOST_RECORD)
             record->bytes[place] = (uint8_t)(record->bytes[place] << 4 | digit);
@@ -30,7 +29,7 @@ struct record read_record(struct slice line)
     if (line.length == 0)
         record.shape = EMPTY;
     else if (line.start[0] != ':')
-        record.shape = NO_COLON;
+        record.shape = BAD_CHARACTER;
     else
         record.shape = read_digits(line, &record);
     return record;

@@ -7,14 +7,13 @@
 #include "dirgeflint.h"
 #include "slice.h"
 
-enum shape { WHOLE, EMPTY, NO_COLON, NO_DIGIT, ODD_DIGITS, WRONG_COUNT };
+enum shape { WHOLE, EMPTY, BAD_CHARACTER, ODD_DIGITS, WRONG_COUNT };
 
 enum { AROUND_DATA = 5, MOST_RECORD = 255 + AROUND_DATA };
 
 /* A line as a record, as far as it has the shape of one. */
 struct record {
     enum shape shape;
-    size_t bad;                 /* for NO_DIGIT: the place in the line of what is none */
     size_t count;               /* bytes that the line spells, of which MOST_RECORD are kept */
     uint8_t bytes[MOST_RECORD]; /* length, address (2), type, data, checksum */
 };

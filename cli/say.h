@@ -1,4 +1,4 @@
-/* The exit statuses, and the messages on standard error that go with them: one line each. */
+/* The exit statuses, and the messages on standard error that go with them: one line each; point.h has what may follow one. */
 #ifndef SAY_H
 #define SAY_H
 

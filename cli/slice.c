@@ -22,16 +22,21 @@ bool slice_is(struct slice slice, const char *string)
     return slice.length == strlen(string) && memcmp(slice.start, string, slice.length) == 0;
 }
 
+bool is_printable(char byte)
+{
+    return byte >= ' ' && byte <= '~';
+}
+
 const char *shown(struct slice slice, char room[SHOWN])
 {
     size_t used = 0;
     room[used++] = '\'';
     for (size_t i = 0; i < slice.length && i < MOST_SHOWN; i++) {
-        unsigned char byte = (unsigned char)slice.start[i];
-        if (byte >= ' ' && byte <= '~')
-            room[used++] = (char)byte;
+        char byte = slice.start[i];
+        if (is_printable(byte))
+            room[used++] = byte;
         else
-            used += (size_t)snprintf(room + used, SHOWN - used, "\\x%02X", (unsigned)byte);
+            used += (size_t)snprintf(room + used, SHOWN - used, "\\x%02X", (unsigned)(unsigned char)byte);
     }
     snprintf(room + used, SHOWN - used, "%s", slice.length > MOST_SHOWN ? "..'" : "'");
     return room;

@@ -14,6 +14,9 @@ struct slice slice_of(const char *string);
 struct slice without_first(struct slice slice, size_t count);
 bool slice_is(struct slice slice, const char *string);
 
+/* Whether the byte is printable ASCII, a blank included. */
+bool is_printable(char byte);
+
 /* Room for a word as it stands in a message. */
 enum { SHOWN = 128 };
 

@@ -25,12 +25,12 @@
 #include <stdint.h>
 
 /*
- * The minor number goes up when something is added or shows otherwise than before, the major one when a host has to be compiled again.
- * CHANGELOG.md tells what changed.
+ * The minor number goes up when something is added, or is shown or told otherwise than before, the major one when a host has to be compiled
+ * again. CHANGELOG.md tells what changed.
  */
 #define DIRGEFLINT_VERSION_MAJOR 1
-#define DIRGEFLINT_VERSION_MINOR 2
-#define DIRGEFLINT_VERSION "1.2"
+#define DIRGEFLINT_VERSION_MINOR 3
+#define DIRGEFLINT_VERSION "1.3"
 
 #ifdef __cplusplus
 extern "C" {
@@ -57,26 +57,29 @@ enum {
     DIRGEFLINT_PERIOD = 16384       /* clocks of a period, and of the longest play */
 };
 
-/* The numbers of refusals. Each function lists its own, in the order in which they are tested. */
+/* The numbers of refusals. Each function lists its own, in the order in which they are tested, which is not that of the numbers. */
 enum {
     DIRGEFLINT_ACCEPTED = 0,
-    DIRGEFLINT_BAD_SETTING = 1,      /* paint: mode, colour, h, v or frequency out of range, or ratio above 3 */
-    DIRGEFLINT_RESERVED_RATIO = 2,   /* paint: blink ratio 3 */
-    DIRGEFLINT_BAD_WORDS = 3,        /* paint: not 64 words, or a word above 1023 */
-    DIRGEFLINT_BAD_FONT = 4,         /* paint, write: not 1,116 rows, or a row above 4095 */
-    DIRGEFLINT_BAD_LINE = 5,         /* paint: line above 1023, or width above 1024 */
-    DIRGEFLINT_NO_ROOM = 6,          /* paint, write, read, pack: the output is too short */
-    DIRGEFLINT_BAD_SHAPE = 7,        /* read: text above 65,535 bytes, or a line that is no record */
-    DIRGEFLINT_BAD_SUM = 8,          /* read: a record's bytes do not sum to 0 */
-    DIRGEFLINT_BAD_TYPE = 9,         /* read: a record type other than 00 and 01, or a bad end record */
-    DIRGEFLINT_PAST_IMAGE = 10,      /* read: a record that goes past address 8,192 */
-    DIRGEFLINT_GIVEN_TWICE = 11,     /* read: a byte that an earlier record gives already */
-    DIRGEFLINT_BAD_END = 12,         /* read: no end record, or bytes after its line */
-    DIRGEFLINT_NO_FONT = 13,         /* image to font: wrong lengths, or the image is no font's */
-    DIRGEFLINT_TOO_MANY_CLOCKS = 14, /* play: above 16,384 clocks, or above the room lent */
-    DIRGEFLINT_BAD_CLOCK = 15,       /* pulse level: channel above 7, or clock outside its period */
-    DIRGEFLINT_BAD_GLYPHS = 16,      /* pack: rows that are no whole glyphs, above 256 glyphs, or a row above 4095 */
-    DIRGEFLINT_TOO_MANY_PATTERNS = 17 /* pack: more different glyphs than the 62 cells of a font */
+    DIRGEFLINT_BAD_SETTING = 1,        /* paint: mode, colour, h, v or frequency out of range, or ratio above 3 */
+    DIRGEFLINT_RESERVED_RATIO = 2,     /* paint: blink ratio 3 */
+    DIRGEFLINT_BAD_WORDS = 3,          /* paint: not 64 words, or a word above 1023 */
+    DIRGEFLINT_FONT_LENGTH = 4,        /* paint, write: not 1,116 rows */
+    DIRGEFLINT_BAD_LINE = 5,           /* paint: line above 1023, or width above 1024 */
+    DIRGEFLINT_NO_ROOM = 6,            /* paint, write, read, pack: the output is too short */
+    DIRGEFLINT_TEXT_TOO_LONG = 7,      /* read: text above 65,535 bytes */
+    DIRGEFLINT_BAD_SUM = 8,            /* read: a record's bytes do not sum to 0 */
+    DIRGEFLINT_BAD_TYPE = 9,           /* read: a record type other than 00 and 01, or a bad end record */
+    DIRGEFLINT_PAST_IMAGE = 10,        /* read: a record that goes past address 8,192 */
+    DIRGEFLINT_GIVEN_TWICE = 11,       /* read: a byte that an earlier record gives already */
+    DIRGEFLINT_BAD_END = 12,           /* read: no end record, or bytes after its line */
+    DIRGEFLINT_NO_FONT = 13,           /* image to font: wrong lengths, or the image is no font's */
+    DIRGEFLINT_TOO_MANY_CLOCKS = 14,   /* play: above 16,384 clocks, or above the room lent */
+    DIRGEFLINT_BAD_CLOCK = 15,         /* pulse level: channel above 7, or clock outside its period */
+    DIRGEFLINT_BAD_GLYPHS = 16,        /* pack: rows that are no whole glyphs, above 256 glyphs, or a row above 4095 */
+    DIRGEFLINT_TOO_MANY_PATTERNS = 17, /* pack: more different glyphs than the 62 cells of a font */
+    DIRGEFLINT_BAD_ROW = 18,           /* paint, write: a row above 4095 */
+    DIRGEFLINT_BAD_CHARACTER = 19,     /* read: no colon where a line begins, or no digit after it */
+    DIRGEFLINT_NO_RECORD = 20          /* read: a line of a colon and digits only, or an empty one, that is no record */
 };
 
 /* The reason for a number, in words, for a message; never null. */
@@ -87,10 +90,10 @@ static inline const char *dirgeflint_reason(uint32_t number)
     case DIRGEFLINT_BAD_SETTING: return "a setting is out of its range (mode 0 to 3, colour 0 to 7, h and v 0 to 63, ratio 0 to 3 with 3 reserved, frequency 0 to 3)";
     case DIRGEFLINT_RESERVED_RATIO: return "blink ratio 3 is reserved: use 0, 1 or 2";
     case DIRGEFLINT_BAD_WORDS: return "there must be 64 words, each at most 1023";
-    case DIRGEFLINT_BAD_FONT: return "there must be 1,116 font rows, each at most 4095";
+    case DIRGEFLINT_FONT_LENGTH: return "there must be 1,116 font rows, 18 for each of the 62 cells";
     case DIRGEFLINT_BAD_LINE: return "the line is above 1023 or the width above 1024";
     case DIRGEFLINT_NO_ROOM: return "the room for the output is too short";
-    case DIRGEFLINT_BAD_SHAPE: return "the text is longer than 65,535 bytes, or this line is no record: a colon, then two digits for each byte, as many as the length says";
+    case DIRGEFLINT_TEXT_TOO_LONG: return "the text is longer than 65,535 bytes";
     case DIRGEFLINT_BAD_SUM: return "the checksum is wrong: the record's bytes do not sum to 0";
     case DIRGEFLINT_BAD_TYPE: return "the record type is neither 00 nor 01, or an end record has data or an address";
     case DIRGEFLINT_PAST_IMAGE: return "the record goes past the image's 8,192 bytes";
@@ -101,6 +104,9 @@ static inline const char *dirgeflint_reason(uint32_t number)
     case DIRGEFLINT_BAD_CLOCK: return "the channel is above 7, or the clock is outside the channel's period";
     case DIRGEFLINT_BAD_GLYPHS: return "there must be 18 rows for each glyph, at most 256 glyphs, and no row above 4095";
     case DIRGEFLINT_TOO_MANY_PATTERNS: return "there are more than 62 different glyphs, and a font has 62 cells";
+    case DIRGEFLINT_BAD_ROW: return "the row is above 4095, and a font's rows have 12 bits";
+    case DIRGEFLINT_BAD_CHARACTER: return "this character is neither the colon that a record begins with nor a hexadecimal digit after it";
+    case DIRGEFLINT_NO_RECORD: return "this line is no record: a colon, then two digits for each byte, as many bytes as the length asks for";
     default: return "no such number";
     }
 }
@@ -326,7 +332,8 @@ typedef struct dirgeflint_settings {
  * Refuses 1: a mode, colour, h, v or frequency out of its range, or a ratio above 3
  *         2: ratio 3
  *         3: words_length not 64, or a word above 1023
- *         4: font_length not 1,116, or a row above 4095
+ *         4: font_length not 1,116
+ *        18: a row above 4095 (place: the index in font of the first such row, which is row place % 18 of cell place / 18)
  *         5: line above 1023, or width above 1024
  *         6: dots_length below width
  */
@@ -357,14 +364,22 @@ dirgeflint_answer dirgeflint_paint(const uint16_t *words, size_t words_length, c
  *
  * value   how many bytes the records give: 8,192 (DIRGEFLINT_IMAGE_BYTES) for a whole image.
  * Refuses 6: image_length below 8,192
- *         7: text_length above 65,535 (place 0); or a line that has not the shape of a record
+ *         7: text_length above 65,535
+ *        19: a bad character, which is told below (place: that character's own)
+ *        20: a line without a bad character that is no record all the same: it is empty, or a colon alone, or has an odd number of digits,
+ *            or has fewer or more bytes than its length asks for (place: where the line starts)
  *         8: a record whose bytes do not sum to 0
  *         9: another type, or a type 01 with a length or an address that is not 0
  *        10: address plus length above 8,192
  *        11: a byte that an earlier record gives already
  *        12: no end record (place: text_length), or bytes after its line (place: the first of them)
- * 7 to 11 go by the first record with a fault, whatever faults later ones have; place is where its line starts, in bytes from the text's
- * start. Lines after the end record's are looked at for 12 only.
+ * 19, 20 and 8 to 11 go by the first line with a fault, whatever faults later ones have; the place of 8 to 11, as of 20, is where that line
+ * starts. Places are in bytes from the text's start. Lines after the end record's are looked at for 12 only.
+ *
+ * A bad character is the first byte of a line if it is no colon; or else the line's first byte after the colon that is no digit (0 to 9, A to
+ * F, a to f). The LF or CR LF that ends the line is none. A CR that no LF follows is one, at the text's end as well; and so are blanks, tabs,
+ * a second colon, and bytes of 0 or above 127. To tell a person where it is: its line is one more than the LFs before place, and its column
+ * one more than the bytes between the last of these and place.
  */
 dirgeflint_answer dirgeflint_hex_read(const uint8_t *text, size_t text_length, uint8_t *image, size_t image_length);
 
@@ -372,7 +387,8 @@ dirgeflint_answer dirgeflint_hex_read(const uint8_t *text, size_t text_length, u
  * Writes a font: the text of its image goes to the first 22,540 bytes of text, 512 records that hold 16 bytes each, from address 0 up, and the end
  * record, in upper case, each line ended by LF. Later bytes stay. Reading the text and turning its image gives the font again.
  *
- * Refuses 4: font_length not 1,116, or a row above 4095
+ * Refuses 4: font_length not 1,116
+ *        18: a row above 4095 (place: the index in font of the first such row, which is row place % 18 of cell place / 18)
  *         6: text_length below 22,540
  */
 dirgeflint_answer dirgeflint_hex_write(const uint16_t *font, size_t font_length, uint8_t *text, size_t text_length);
