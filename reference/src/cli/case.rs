@@ -18,13 +18,13 @@ pub struct Line {
     /// Whether anything may stand between start and end.
     free: bool,
     /// The lines right under it, to the letter.
-    under: Vec<String>,
+    under: Box<[String]>,
 }
 
 impl Line {
     pub fn new(start: impl Into<String>, end: impl Into<String>) -> Self {
         let (start, end) = (start.into(), end.into());
-        Line { start, names: Vec::new(), one_of: Vec::new(), end, free: true, under: Vec::new() }
+        Line { start, names: Vec::new(), one_of: Vec::new(), end, free: true, under: Box::default() }
     }
 
     pub fn exactly(text: impl Into<String>) -> Self {
@@ -38,7 +38,7 @@ impl Line {
     }
 
     pub fn over(mut self, lines: impl IntoIterator<Item = String>) -> Self {
-        self.under.extend(lines);
+        self.under = lines.into_iter().collect();
         self
     }
 
@@ -67,7 +67,7 @@ impl Line {
 
     /// Whether it is the first of these lines, and those under it are the next.
     fn leads(&self, lines: &[&str]) -> bool {
-        lines.len() >= self.height() && self.fits(lines[0]) && self.under == lines[1..self.height()]
+        lines.len() >= self.height() && self.fits(lines[0]) && *self.under == lines[1..self.height()]
     }
 }
 

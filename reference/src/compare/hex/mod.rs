@@ -4,7 +4,7 @@
 //! for the places of refusals, fonts with a row too large, then texts, fonts and images drawn at random. Numbers, places,
 //! counts and the whole rooms are compared.
 
-mod places;
+pub(crate) mod places;
 #[cfg(test)]
 mod planted;
 pub(crate) mod texts;

@@ -354,10 +354,10 @@ const READERS: &[(&str, Read)] = &[
     }),
     ("the last faulty line decides", |text, image| {
         let answer = Fast.read(text, image);
-        let starts = (0..text.len()).filter(|&at| at == 0 || text[at - 1] == b'\n');
-        let last = starts.map(|start| (start, Fast.read(&text[start..], &mut [0; IMAGE_BYTES])));
-        let last = last.filter(|(_, alone)| [19, 20].contains(&alone.number)).last();
-        let last = last.filter(|_| [19, 20].contains(&answer.number) && text.len() < 200);
+        let starts = (0..text.len()).rev().filter(|&at| at == 0 || text[at - 1] == b'\n');
+        let mut alone = starts.map(|start| (start, Fast.read(&text[start..], &mut [0; IMAGE_BYTES])));
+        let faulty = [19, 20].contains(&answer.number) && text.len() < 200;
+        let last = alone.find(|(_, alone)| faulty && [19, 20].contains(&alone.number));
         last.map_or(answer, |(start, alone)| Answer::refused(alone.number, start as u32 + alone.place))
     }),
     ("a bad character after the end record", |text, image| {
