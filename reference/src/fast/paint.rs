@@ -116,7 +116,8 @@ impl Paint for Fast {
             let cell = &mut dots[left..end];
             left += width;
             let (mut bits, mut above) = (0, 0);
-            if !space && !(hidden && attributes & 1 == 1) {
+            let blinked_out = hidden && attributes & 1 == 1;
+            if !space && !blinked_out {
                 let row = ((order.line - top) / size) as usize;
                 bits = order.font[18 * code + row];
                 if settings.mode == 1 && row > 0 {
