@@ -156,7 +156,7 @@ static uint32_t fast_font_number(const uint16_t *font, size_t font_length)
     return fast_all(font, 279) > 4095 ? 18 : 0;
 }
 
-/* A refusal of a painter or the writer. Which row is too large is looked for only here, where it is known that one is. */
+/* A refusal of a painter or the writer. Which row is too large is looked for only here, when one is known to be. */
 FAST_APART dirgeflint_answer fast_refusal(uint32_t number, const uint16_t *font)
 {
     uint32_t place = 0;
@@ -477,11 +477,9 @@ static bool fast_give(fast_draft *restrict draft, size_t address, const uint8_t 
  */
 FAST_APART dirgeflint_answer fast_no_record(const uint8_t *text, size_t text_length, size_t start)
 {
-    size_t at = start;
-    if (text[at] == ':')
-        do
-            at++;
-        while (at < text_length && fast_digit(text[at]) < 16);
+    size_t at = start + (text[start] == ':');
+    while (at > start && at < text_length && fast_digit(text[at]) < 16)
+        at++;
     if (at == text_length || text[at] == '\n' || (text[at] == '\r' && at + 1 < text_length && text[at + 1] == '\n'))
         return fast_answer(20, (uint32_t)start, 0);
     return fast_answer(19, (uint32_t)at, 0);

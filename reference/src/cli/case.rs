@@ -37,6 +37,7 @@ impl Line {
         self
     }
 
+    /// With these lines right under it.
     pub fn over(mut self, lines: impl IntoIterator<Item = String>) -> Self {
         self.under = lines.into_iter().collect();
         self

@@ -144,7 +144,7 @@ fn a_shown_line_and_its_mark_are_looked_at() {
         with(1, "     :00?00 001FF "),
         with(1, "        :00?00 001FF "),
         with(1, ""),
-        // The mark: a column off, under the line's start or another bad character, another mark, more than one, more behind.
+        // The mark: a column off, under the line's start or another bad character, not alone, with more behind it.
         with(2, "      ^"),
         with(2, "        ^"),
         with(2, "   ^"),

@@ -277,12 +277,12 @@ fn is_lone_cr(text: &[u8], at: usize) -> bool {
     text[at] == b'\r' && text.get(at + 1) != Some(&b'\n')
 }
 
-/// The first line of the text that answers this test, by its start.
-fn first_line(text: &[u8], test: impl Fn(&[u8], Answer) -> bool) -> Option<(usize, Answer)> {
+/// The first line of the text that is refused with one of these numbers when it is read alone: its start, and how.
+fn first_refused(text: &[u8], numbers: &[u32]) -> Option<(usize, Answer)> {
     let mut start = 0;
     for line in text.split_inclusive(|&byte| byte == b'\n') {
         let alone = Fast.read(line, &mut [0; IMAGE_BYTES]);
-        if test(line, alone) {
+        if numbers.contains(&alone.number) {
             return Some((start, alone));
         }
         start += line.len();
@@ -339,17 +339,17 @@ const READERS: &[(&str, Read)] = &[
     }),
     ("characters of the whole text first", |text, image| {
         let answer = Fast.read(text, image);
-        let bad = first_line(text, |_, alone| alone.number == 19).filter(|_| answer.number > 7);
+        let bad = first_refused(text, &[19]).filter(|_| answer.number > 7);
         bad.map_or(answer, |(start, alone)| Answer::refused(19, start as u32 + alone.place))
     }),
     ("shapes of the whole text first", |text, image| {
         let answer = Fast.read(text, image);
-        let bad = first_line(text, |_, alone| [19, 20].contains(&alone.number)).filter(|_| answer.number > 7);
+        let bad = first_refused(text, &[19, 20]).filter(|_| answer.number > 7);
         bad.map_or(answer, |(start, alone)| Answer::refused(alone.number, start as u32 + alone.place))
     }),
     ("characters before shapes over the whole text", |text, image| {
         let answer = Fast.read(text, image);
-        let bad = first_line(text, |_, alone| alone.number == 19).filter(|_| answer.number == 20);
+        let bad = first_refused(text, &[19]).filter(|_| answer.number == 20);
         bad.map_or(answer, |(start, alone)| Answer::refused(19, start as u32 + alone.place))
     }),
     ("the last faulty line decides", |text, image| {

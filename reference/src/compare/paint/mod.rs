@@ -381,13 +381,13 @@ fn rows_case(subject: &dyn Paint, fonts: &[Vec<u16>], number: u64, random: &mut 
 
 pub fn run(subject: &dyn Paint, plan: &Plan, say: &mut dyn FnMut(String)) -> Result<u64, Difference> {
     let fonts = fonts();
-    let what = format!(
-        "{ROWS_FROM} refusals alone, in pairs and threes, {SPOILT_FONTS} fonts with rows too large, then lines of made \
-         and random screens, a third for mode 1's shadow"
-    );
+    if plan.count.is_none() {
+        say(format!("compare paint: {ROWS_FROM} pairs of faults"));
+        say(format!("compare paint: {SPOILT_FONTS} fonts with rows too large"));
+    }
     let part = Part {
         name: "paint",
-        what: &what,
+        what: "refusals alone, in pairs and threes, then lines of made and random screens, a third for mode 1's shadow",
         cases: SCREENS_FROM + SCREENS,
         case: &|index, random| {
             if index < ROWS_FROM {
