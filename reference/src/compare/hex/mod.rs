@@ -188,7 +188,7 @@ pub fn run(subject: &dyn Hex, plan: &Plan, say: &mut dyn FnMut(String)) -> Resul
     }
     let part = Part {
         name: "hex",
-        what: "a short text changed everywhere, images with a bit cleared, texts and fonts for places, then random ones",
+        what: "a short text changed everywhere, images with a bit cleared, texts and fonts for places, then random",
         cases: RANDOM_FROM + RANDOM,
         case: &|index, random| match index {
             0..CHANGED_SHORT => {
