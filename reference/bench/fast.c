@@ -6,6 +6,9 @@
  */
 #include <string.h>
 
+#define FAST_INLINE static inline __attribute__((always_inline))
+#define FAST_APART static __attribute__((noinline))
+
 static dirgeflint_answer fast_pulse_level(uint32_t channel, uint8_t byte, uint32_t t)
 {
     uint32_t mask = 127u >> (channel >> 2 & 1);
@@ -145,9 +148,22 @@ static uint16_t fast_all(const uint16_t *numbers, size_t quarter)
     return all;
 }
 
-static bool fast_is_font(const uint16_t *font, size_t font_length)
+/* What speaks against a font, if not 0. */
+static uint32_t fast_font_number(const uint16_t *font, size_t font_length)
 {
-    return font_length == 1116 && fast_all(font, 279) <= 4095;
+    if (font_length != 1116)
+        return 4;
+    return fast_all(font, 279) > 4095 ? 18 : 0;
+}
+
+/* A refusal of a painter or the writer. Which row is too large is looked for only here, when one is known to be. */
+FAST_APART dirgeflint_answer fast_refusal(uint32_t number, const uint16_t *font)
+{
+    uint32_t place = 0;
+    if (number == 18)
+        while (font[place] <= 4095)
+            place++;
+    return fast_answer(number, place, 0);
 }
 
 static uint32_t fast_paint_number(const uint16_t *words, size_t words_length, const uint16_t *font, size_t font_length,
@@ -159,8 +175,9 @@ static uint32_t fast_paint_number(const uint16_t *words, size_t words_length, co
         return 2;
     if (words_length != 64 || fast_all(words, 16) > 1023)
         return 3;
-    if (!fast_is_font(font, font_length))
-        return 4;
+    uint32_t number = fast_font_number(font, font_length);
+    if (number != 0)
+        return number;
     if (line > 1023 || width > 1024)
         return 5;
     return dots_length < width ? 6 : 0;
@@ -294,9 +311,6 @@ typedef struct fast_cells {
     uint8_t background;
 } fast_cells;
 
-#define FAST_INLINE static inline __attribute__((always_inline))
-#define FAST_APART static __attribute__((noinline))
-
 /* Paints cells of a size that the compiler knows. Gives the dot after them. */
 FAST_INLINE uint32_t fast_plain_row(const fast_cells c, uint32_t size)
 {
@@ -390,7 +404,7 @@ static dirgeflint_answer fast_paint(const uint16_t *words, size_t words_length, 
 {
     uint32_t number = fast_paint_number(words, words_length, font, font_length, &s, line, width, dots_length);
     if (number != 0)
-        return fast_answer(number, 0, 0);
+        return fast_refusal(number, font);
     if (!s.on) {
         memset(dots, 0, width);
         return fast_answer(0, 0, 0);
@@ -457,6 +471,20 @@ static bool fast_give(fast_draft *restrict draft, size_t address, const uint8_t 
     return before == 0;
 }
 
+/*
+ * The refusal of a line that is no record: good bytes are passed over from its start on, and what stands behind them is
+ * the line's end or a bad character. This is asked only once the quick tests have failed.
+ */
+FAST_APART dirgeflint_answer fast_no_record(const uint8_t *text, size_t text_length, size_t start)
+{
+    size_t at = start + (text[start] == ':');
+    while (at > start && at < text_length && fast_digit(text[at]) < 16)
+        at++;
+    if (at == text_length || text[at] == '\n' || (text[at] == '\r' && at + 1 < text_length && text[at + 1] == '\n'))
+        return fast_answer(20, (uint32_t)start, 0);
+    return fast_answer(19, (uint32_t)at, 0);
+}
+
 static dirgeflint_answer fast_hex_read(const uint8_t *text, size_t text_length, uint8_t *image, size_t image_length)
 {
     static fast_draft draft;
@@ -474,11 +502,11 @@ static dirgeflint_answer fast_hex_read(const uint8_t *text, size_t text_length, 
         size_t left = text_length - at;
         uint32_t place = (uint32_t)at;
         if (left < 11 || line[0] != ':')
-            return fast_answer(7, place, 0);
+            return fast_no_record(text, text_length, at);
         fast_found found = fast_decode(line + 1, head, 4);
         size_t length = head[0], end = 11 + 2 * length, next = end;
         if ((found.bits & 128) || left < end)
-            return fast_answer(7, place, 0);
+            return fast_no_record(text, text_length, at);
         fast_found more = fast_decode(line + 9, data, length);
         uint8_t high = fast_digit(line[end - 2]), low = fast_digit(line[end - 1]);
         uint8_t bad = more.bits | high | low, sum = (uint8_t)(found.sum + more.sum + (high << 4 | low));
@@ -491,7 +519,7 @@ static dirgeflint_answer fast_hex_read(const uint8_t *text, size_t text_length, 
                 bad = 128;
         }
         if (bad & 128)
-            return fast_answer(7, place, 0);
+            return fast_no_record(text, text_length, at);
         if (sum != 0)
             return fast_answer(8, place, 0);
         size_t address = (size_t)(head[1] << 8 | head[2]);
@@ -536,8 +564,9 @@ static void fast_image(const uint16_t *restrict font, uint8_t *restrict image)
 static dirgeflint_answer fast_hex_write(const uint16_t *font, size_t font_length, uint8_t *text, size_t text_length)
 {
     uint8_t image[8192];
-    if (!fast_is_font(font, font_length))
-        return fast_answer(4, 0, 0);
+    uint32_t number = fast_font_number(font, font_length);
+    if (number != 0)
+        return fast_refusal(number, font);
     if (text_length < 22540)
         return fast_answer(6, 0, 0);
     fast_image(font, image);

@@ -108,45 +108,116 @@ fn good() -> Vec<(&'static str, Vec<u8>)> {
     ]
 }
 
-fn shape() -> Vec<(&'static str, Vec<u8>)> {
+fn too_long() -> Vec<(&'static str, Vec<u8>)> {
     vec![
         ("refused-7-too-long", of_length(65_536)),
         ("refused-7-too-long-noise", vec![b'x'; 70_000]),
+        ("refused-7-too-long-empty-lines", vec![b'\n'; 65_536]),
         ("refused-7-too-long-bad-sum-first", [b":00000000FF\n".to_vec(), of_length(65_535)].concat()),
-        ("refused-7-lf-alone", b"\n".to_vec()),
-        ("refused-7-cr-lf-alone", b"\r\n".to_vec()),
-        ("refused-7-cr-alone", b"\r".to_vec()),
-        ("refused-7-empty-line-first", [b"\n", END].concat()),
-        ("refused-7-empty-line-between", [IDLE, b"\n", END].concat()),
-        ("refused-7-empty-cr-lf-between", [IDLE, b"\r\n", END].concat()),
-        ("refused-7-no-colon", b"00000001FF\n".to_vec()),
-        ("refused-7-other-mark", b";00000001FF\n".to_vec()),
-        ("refused-7-colon-alone", b":\n".to_vec()),
-        ("refused-7-two-colons", b"::00000001FF\n".to_vec()),
-        ("refused-7-blank-before", b" :00000001FF\n".to_vec()),
-        ("refused-7-blank-after", b":00000001FF \n".to_vec()),
-        ("refused-7-blank-inside", b":0000 0001FF\n".to_vec()),
-        ("refused-7-tab-inside", b":000000\t1FF\n".to_vec()),
-        ("refused-7-nul-inside", b":000000\x001FF\n".to_vec()),
-        ("refused-7-high-byte-inside", b":000000\xB01FF\n".to_vec()),
-        ("refused-7-letter-g", b":0000000GFF\n".to_vec()),
-        ("refused-7-letter-before-a", b":000000@1FF\n".to_vec()),
-        ("refused-7-mark-of-utf-8", [b"\xEF\xBB\xBF", END].concat()),
-        ("refused-7-odd-digits", b":00000001FFF\n".to_vec()),
-        ("refused-7-one-digit-less", b":00000001F\n".to_vec()),
-        ("refused-7-eight-digits", b":00000001\n".to_vec()),
-        ("refused-7-one-digit", b":0\n".to_vec()),
-        ("refused-7-length-above-data", b":01000001FE\n".to_vec()),
-        ("refused-7-length-below-data", b":0000000000FF01\n".to_vec()),
-        ("refused-7-length-255-no-data", b":FF00000001\n".to_vec()),
-        ("refused-7-cr-at-the-very-end", b":00000001FF\r".to_vec()),
-        ("refused-7-cr-cr-lf", b":00000001FF\r\r\n".to_vec()),
-        ("refused-7-cr-between-records", [&b":0000000000\r"[..], END].concat()),
-        ("refused-7-cr-inside", b":0000\r0001FF\n".to_vec()),
-        ("refused-7-second-record", [IDLE, b"00000001FF\n"].concat()),
-        ("refused-7-after-512-records", [&patterned()[..512 * 44], b":00000001F\n"].concat()),
-        ("refused-7-cut-record", patterned()[..20_000].to_vec()),
-        ("refused-7-other-numbers-too", b":0100000500\n".to_vec()),
+        ("refused-7-too-long-bad-character-first", [b":0000000000 \n".to_vec(), of_length(65_535)].concat()),
+        ("refused-7-too-long-by-a-byte-at-its-end", [of_length(65_535), b" ".to_vec()].concat()),
+        ("refused-7-too-long-by-a-cr-at-its-end", [of_length(65_535), b"\r".to_vec()].concat()),
+    ]
+}
+
+fn characters() -> Vec<(&'static str, Vec<u8>)> {
+    let (pattern, after_cr_lf) = (patterned(), with_cr_lf(IDLE));
+    let changed = |place: usize, byte: u8| {
+        let mut text = pattern.clone();
+        text[place] = byte;
+        text
+    };
+    vec![
+        ("refused-19-no-colon", b"00000001FF\n".to_vec()),
+        ("refused-19-no-colon-no-line-end", b"00000001FF".to_vec()),
+        ("refused-19-no-colon-second-record", [IDLE, b"00000001FF\n"].concat()),
+        ("refused-19-no-colon-after-cr-lf", [&after_cr_lf[..], b"00000001FF\r\n"].concat()),
+        ("refused-19-other-mark", b";00000001FF\n".to_vec()),
+        ("refused-19-two-colons", b"::00000001FF\n".to_vec()),
+        ("refused-19-colon-inside", b":0000:0001FF\n".to_vec()),
+        ("refused-19-colon-for-a-line-end", [&b":0000000000"[..], END].concat()),
+        ("refused-19-blank-before", b" :00000001FF\n".to_vec()),
+        ("refused-19-blank-after", b":00000001FF \n".to_vec()),
+        ("refused-19-blank-after-cr-lf", b":0000000000\r\n:00000001FF \r\n".to_vec()),
+        ("refused-19-blank-after-no-line-end", b":00000001FF ".to_vec()),
+        ("refused-19-blank-inside", b":0000 0001FF\n".to_vec()),
+        ("refused-19-blank-in-an-empty-line", [IDLE, b" \n", END].concat()),
+        ("refused-19-tab-inside", b":000000\t1FF\n".to_vec()),
+        ("refused-19-nul-inside", b":000000\x001FF\n".to_vec()),
+        ("refused-19-nul-first", b"\0:00000001FF\n".to_vec()),
+        ("refused-19-high-byte-inside", b":000000\xB01FF\n".to_vec()),
+        ("refused-19-high-byte-last", b":00000001F\xC6\n".to_vec()),
+        ("refused-19-letter-g", b":0000000GFF\n".to_vec()),
+        ("refused-19-small-letter-g", b":0000000gff\n".to_vec()),
+        ("refused-19-letter-o-for-a-zero", b":0000O001FF\n".to_vec()),
+        ("refused-19-before-digit-0", b":000000/1FF\n".to_vec()),
+        ("refused-19-after-digit-9", b":000000:1FF\n".to_vec()),
+        ("refused-19-before-letter-a", b":000000@1FF\n".to_vec()),
+        ("refused-19-before-small-letter-a", b":000000`1ff\n".to_vec()),
+        ("refused-19-mark-of-utf-8", [b"\xEF\xBB\xBF", END].concat()),
+        ("refused-19-comment-after", b":00000001FF ; the end\n".to_vec()),
+        ("refused-19-first-of-two", b":0G000H01FF\n".to_vec()),
+        ("refused-19-cr-alone", b"\r".to_vec()),
+        ("refused-19-two-crs-alone", b"\r\r".to_vec()),
+        ("refused-19-cr-cr-lf-alone", b"\r\r\n".to_vec()),
+        ("refused-19-cr-at-the-very-end", b":00000001FF\r".to_vec()),
+        ("refused-19-cr-at-the-very-end-after-an-lf", [IDLE, b"\r"].concat()),
+        ("refused-19-cr-cr-lf", b":00000001FF\r\r\n".to_vec()),
+        ("refused-19-cr-cr-lf-between", [&b":0000000000\r\r\n"[..], END].concat()),
+        ("refused-19-cr-between-records", [&b":0000000000\r"[..], END].concat()),
+        ("refused-19-cr-for-every-lf", pattern.iter().map(|&byte| if byte == b'\n' { b'\r' } else { byte }).collect()),
+        ("refused-19-cr-inside", b":0000\r0001FF\n".to_vec()),
+        ("refused-19-cr-first", b"\r:00000001FF\n".to_vec()),
+        ("refused-19-lf-cr", b":0000000000\n\r:00000001FF\n\r".to_vec()),
+        ("refused-19-and-one-digit-less", b":0000000G1F\n".to_vec()),
+        ("refused-19-and-one-digit-more", b":000G00001FF\n".to_vec()),
+        ("refused-19-and-too-long-a-length", b":01000000 FF\n".to_vec()),
+        ("refused-19-and-too-short-a-length", b":0000000000FF.\n".to_vec()),
+        ("refused-19-and-other-numbers-too", b":002001050G\n".to_vec()),
+        ("refused-19-before-a-later-sum", [&b":0000000 00\n"[..], b":00000000FF\n"].concat()),
+        ("refused-19-before-a-later-shape", b":0000000x00\n\n:00000001F\n".to_vec()),
+        ("refused-19-first-byte-of-a-font", changed(0, b'.')),
+        ("refused-19-last-digit-of-a-font", changed(pattern.len() - 2, b'f' + 1)),
+        ("refused-19-in-a-font", changed(300 * 44 + 20, b'O')),
+        ("refused-19-after-512-records", [&pattern[..512 * 44], b":0000000lFF\n"].concat()),
+        ("refused-19-no-record-at-all", b"<html>\n".to_vec()),
+        ("refused-19-end-of-a-long-line", [&b":"[..], &[b'0'; 60_000], b"x\n"].concat()),
+        ("refused-19-last-of-the-longest", [&of_length(65_535)[..65_534], b"\r"].concat()),
+    ]
+}
+
+fn shapes() -> Vec<(&'static str, Vec<u8>)> {
+    let pattern = patterned();
+    vec![
+        ("refused-20-lf-alone", b"\n".to_vec()),
+        ("refused-20-cr-lf-alone", b"\r\n".to_vec()),
+        ("refused-20-empty-line-first", [b"\n", END].concat()),
+        ("refused-20-empty-line-between", [IDLE, b"\n", END].concat()),
+        ("refused-20-empty-line-last", [IDLE, b"\n"].concat()),
+        ("refused-20-empty-cr-lf-between", [IDLE, b"\r\n", END].concat()),
+        ("refused-20-empty-line-in-a-font", [&pattern[..100 * 44], b"\n", &pattern[100 * 44..]].concat()),
+        ("refused-20-longest-of-empty-lines", vec![b'\n'; 65_535]),
+        ("refused-20-colon-alone", b":\n".to_vec()),
+        ("refused-20-colon-alone-cr-lf", b":\r\n".to_vec()),
+        ("refused-20-colon-alone-no-line-end", b":".to_vec()),
+        ("refused-20-odd-digits", b":00000001FFF\n".to_vec()),
+        ("refused-20-one-digit-less", b":00000001F\n".to_vec()),
+        ("refused-20-one-digit-less-no-line-end", b":00000001F".to_vec()),
+        ("refused-20-eight-digits", b":00000001\n".to_vec()),
+        ("refused-20-one-digit", b":0\n".to_vec()),
+        ("refused-20-length-above-data", b":01000001FE\n".to_vec()),
+        ("refused-20-length-below-data", b":0000000000FF01\n".to_vec()),
+        ("refused-20-length-255-no-data", b":FF00000001\n".to_vec()),
+        ("refused-20-length-0-with-255-bytes", [&b":"[..], &[b'0'; 520], b"\n"].concat()),
+        ("refused-20-two-records-in-a-line", [&b":0000000000"[..], &END[1..]].concat()),
+        ("refused-20-second-record", [IDLE, b":00000001\n"].concat()),
+        ("refused-20-after-cr-lf", b":0000000000\r\n:00000001FFF\r\n".to_vec()),
+        ("refused-20-after-512-records", [&pattern[..512 * 44], b":00000001F\n"].concat()),
+        ("refused-20-cut-record", pattern[..20_000].to_vec()),
+        ("refused-20-one-long-line", [&b":"[..], &[b'0'; 60_000], b"\n"].concat()),
+        ("refused-20-other-numbers-too", b":0100000500\n".to_vec()),
+        ("refused-20-before-a-later-character", b":00000001F\nnonsense\n".to_vec()),
+        ("refused-20-before-a-later-sum", b"\n:00000000FF\n".to_vec()),
     ]
 }
 
@@ -163,7 +234,8 @@ fn record_faults() -> Vec<(&'static str, Vec<u8>)> {
         ("refused-8-in-a-font", damaged),
         ("refused-8-before-its-type", b":0000000500\n".to_vec()),
         ("refused-8-before-its-address", b":0021000000\n".to_vec()),
-        ("refused-8-before-a-later-shape", ended(&[b":00000000FF", b"nonsense"])),
+        ("refused-8-before-a-later-character", ended(&[b":00000000FF", b"nonsense"])),
+        ("refused-8-before-a-later-shape", ended(&[b":00000000FF", b""])),
         ("refused-9-type-2", ended(&[&record(0, 2, &[0x10, 0x00])])),
         ("refused-9-type-3", ended(&[&record(0, 3, &[0, 0, 0, 0])])),
         ("refused-9-type-4", ended(&[&record(0, 4, &[0, 0])])),
@@ -173,6 +245,7 @@ fn record_faults() -> Vec<(&'static str, Vec<u8>)> {
         ("refused-9-end-with-low-address", record(1, 1, &[])),
         ("refused-9-end-with-high-address", record(256, 1, &[])),
         ("refused-9-before-its-address", ended(&[&record(9000, 4, &[1, 2])])),
+        ("refused-9-before-a-later-character", ended(&[&record(0, 2, &[]), b":0000000O00"])),
         ("refused-9-second-record", ended(&[&record(0, 0, &[1]), &record(0, 2, &[])])),
         ("refused-10-no-data-at-8193", ended(&[&far])),
         ("refused-10-two-bytes-at-8191", ended(&[&record(8191, 0, &[0xFF, 0xFF])])),
@@ -180,6 +253,7 @@ fn record_faults() -> Vec<(&'static str, Vec<u8>)> {
         ("refused-10-last-address", ended(&[&record(65_535, 0, &[0xFF])])),
         ("refused-10-sum-past-65536", ended(&[&record(65_535, 0, &[0xFF; 255])])),
         ("refused-10-255-bytes", ended(&[&record(8192 - 254, 0, &[0xFF; 255])])),
+        ("refused-10-before-a-later-character", ended(&[&far, b" "])),
         ("refused-10-before-given-twice", ended(&[&record(8191, 0, &[0xFF]), &record(8191, 0, &[0xFF, 0xFF])])),
         ("refused-11-same-record-twice", ended(&[&record(0, 0, &[1]), &record(0, 0, &[1])])),
         ("refused-11-set-byte-twice", ended(&[&record(18, 0, &[0xFF]), &record(18, 0, &[0xFF])])),
@@ -188,6 +262,7 @@ fn record_faults() -> Vec<(&'static str, Vec<u8>)> {
         ("refused-11-inside", ended(&[&record(100, 0, &[1; 200]), &record(150, 0, &[1])])),
         ("refused-11-around", ended(&[&record(150, 0, &[1]), &record(100, 0, &[1; 200])])),
         ("refused-11-last-address", ended(&[&record(8191, 0, &[0xFF]), &record(8191, 0, &[0xFF])])),
+        ("refused-11-before-a-later-character", ended(&[&record(0, 0, &[1]), &record(0, 0, &[1]), b":0O"])),
         ("refused-11-a-font-twice", [&patterned()[..512 * 44], &patterned()].concat()),
     ]
 }
@@ -207,6 +282,8 @@ fn ends() -> Vec<(&'static str, Vec<u8>)> {
         ("refused-12-record-after", [END, IDLE].concat()),
         ("refused-12-noise-after", [END, b"nonsense"].concat()),
         ("refused-12-nul-after", [END, b"\0"].concat()),
+        ("refused-12-bad-character-after", [END, b":0000000O00\n"].concat()),
+        ("refused-12-colon-after", [END, b":"].concat()),
         ("refused-12-bad-sum-after", [END, b":00000000FF\n"].concat()),
         ("refused-12-font-and-more", [&patterned()[..], b" "].concat()),
         ("refused-12-end-in-the-middle", [&patterned()[..100 * 44], END, &patterned()[100 * 44..]].concat()),
@@ -245,7 +322,7 @@ fn drawn() -> Vec<Case> {
 }
 
 pub fn all() -> Vec<Case> {
-    let named = [good(), shape(), record_faults(), ends(), images()].concat();
+    let named = [good(), too_long(), characters(), shapes(), record_faults(), ends(), images()].concat();
     let mut cases: Vec<Case> = named.into_iter().map(|(name, text)| Case { name: name.to_string(), text }).collect();
     cases.extend(drawn());
     cases
@@ -292,5 +369,22 @@ mod tests {
         assert_eq!(line("refused-12-nothing"), "refused 12 at 0\n");
         assert_eq!(line("good-font-pattern"), "cells 62 bytes 8192\n");
         assert_eq!(line("refused-13-lowest-of-two"), "refused 13 at 50\n");
+    }
+
+    #[test]
+    fn places_of_bad_characters_and_shapes() {
+        let line = |name: &str| all().into_iter().find(|case| case.name == name).unwrap().expected();
+        assert_eq!(line("refused-7-too-long-bad-character-first"), "refused 7 at 0\n");
+        assert_eq!(line("refused-19-no-colon-after-cr-lf"), "refused 19 at 13\n");
+        assert_eq!(line("refused-19-blank-after-cr-lf"), "refused 19 at 24\n");
+        assert_eq!(line("refused-19-cr-for-every-lf"), "refused 19 at 43\n");
+        assert_eq!(line("refused-19-first-of-two"), "refused 19 at 2\n");
+        assert_eq!(line("refused-19-last-digit-of-a-font"), "refused 19 at 22538\n");
+        assert_eq!(line("refused-19-in-a-font"), "refused 19 at 13220\n");
+        assert_eq!(line("refused-19-end-of-a-long-line"), "refused 19 at 60001\n");
+        assert_eq!(line("refused-19-last-of-the-longest"), "refused 19 at 65534\n");
+        assert_eq!(line("refused-20-after-cr-lf"), "refused 20 at 13\n");
+        assert_eq!(line("refused-20-empty-line-in-a-font"), "refused 20 at 4400\n");
+        assert_eq!(line("refused-20-cut-record"), "refused 20 at 19976\n");
     }
 }

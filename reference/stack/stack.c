@@ -7,6 +7,7 @@
 #include "dirgeflint.h"
 #include <stdio.h>
 #include <stdlib.h>
+#include <string.h>
 
 enum { DEPTH = 1 << 18 };
 
@@ -159,6 +160,29 @@ static void image_to_font(void)
     dirgeflint_image_to_font(image, sizeof image, font, 1116);
 }
 
+/* Refused in the last line of a font's text, and in one line as long as a text can be: its shape, and its last character. */
+static void bad_texts(void)
+{
+    text[22539] = ':';
+    measure(hex_read);
+    text_length = 22538;
+    measure(hex_read);
+    text_length = 65535;
+    memset(text, '0', text_length);
+    text[0] = ':';
+    measure(hex_read);
+    text[65534] = '\r';
+    measure(hex_read);
+}
+
+/* A font that is refused for its last row. */
+static void bad_row(void (*call)(void))
+{
+    font[1115] = 4096;
+    measure(call);
+    font[1115] = 0;
+}
+
 static uint16_t glyphs[257 * 18];
 static size_t glyphs_length;
 static uint8_t cells[256];
@@ -211,13 +235,15 @@ int main(void)
     measure(port_write_character);
     report("dirgeflint_port_write_character");
     screens();
+    line = 1023;
+    bad_row(paint);
     report("dirgeflint_paint");
+    bad_row(hex_write);
     measure(hex_write);
     report("dirgeflint_hex_write");
     text_length = 22540;
     measure(hex_read);
-    text[22539] = ':';
-    measure(hex_read);
+    bad_texts();
     report("dirgeflint_hex_read");
     measure(image_to_font);
     report("dirgeflint_image_to_font");

@@ -6,7 +6,8 @@ use super::program::{End, Ended, Order, Program};
 use super::report::{difference, indented, shown, typed};
 use std::ffi::{OsStr, OsString};
 
-/// A line of standard error. Where its wording is free, only its start and its end are known, and what it has to name.
+/// A line of standard error, with those right under it that belong to it. Where its wording is free, only its start and
+/// its end are known, and what it has to name.
 #[derive(Clone, Debug)]
 pub struct Line {
     pub start: String,
@@ -16,15 +17,30 @@ pub struct Line {
     pub end: String,
     /// Whether anything may stand between start and end.
     free: bool,
+    /// The lines right under it, to the letter.
+    under: Box<[String]>,
 }
 
 impl Line {
     pub fn new(start: impl Into<String>, end: impl Into<String>) -> Self {
-        Line { start: start.into(), names: Vec::new(), one_of: Vec::new(), end: end.into(), free: true }
+        let (start, end) = (start.into(), end.into());
+        Line { start, names: Vec::new(), one_of: Vec::new(), end, free: true, under: Box::default() }
     }
 
     pub fn exactly(text: impl Into<String>) -> Self {
-        Line { start: text.into(), names: Vec::new(), one_of: Vec::new(), end: String::new(), free: false }
+        Line::new(text, "").without_more()
+    }
+
+    /// Nothing stands between start and end.
+    pub fn without_more(mut self) -> Self {
+        self.free = false;
+        self
+    }
+
+    /// With these lines right under it.
+    pub fn over(mut self, lines: impl IntoIterator<Item = String>) -> Self {
+        self.under = lines.into_iter().collect();
+        self
     }
 
     pub fn naming(mut self, what: impl Into<String>) -> Self {
@@ -43,6 +59,16 @@ impl Line {
         rest.is_some_and(|rest| self.free || rest.is_empty())
             && all(&self.names)
             && (self.one_of.is_empty() || self.one_of.iter().any(all))
+    }
+
+    /// How many lines it is, with those under it.
+    fn height(&self) -> usize {
+        1 + self.under.len()
+    }
+
+    /// Whether it is the first of these lines, and those under it are the next.
+    fn leads(&self, lines: &[&str]) -> bool {
+        lines.len() >= self.height() && self.fits(lines[0]) && *self.under == lines[1..self.height()]
     }
 }
 
@@ -66,7 +92,8 @@ impl std::fmt::Display for Line {
         if let Some(set) = self.one_of.first() {
             write!(out, "..{}{}", set.join(".."), if self.one_of.len() > 1 { " or others" } else { "" })?;
         }
-        write!(out, "{}{}", if self.free { ".." } else { "" }, self.end)
+        write!(out, "{}{}", if self.free { ".." } else { "" }, self.end)?;
+        self.under.iter().try_for_each(|line| write!(out, "\n{line}"))
     }
 }
 
@@ -393,27 +420,24 @@ fn permissions(mode: Option<u32>) -> String {
 
 fn lines_differ(due: &[Line], err: &[u8]) -> Option<String> {
     let text = String::from_utf8_lossy(err);
-    let lines: Vec<&str> = text.lines().collect();
-    if lines.len() == due.len() && due.iter().zip(&lines).all(|(due, line)| due.fits(line)) {
-        return None;
-    }
-    Some(format!("is not what is due:\n{}", listed(due)))
+    let lines: Vec<&str> = text.split_terminator('\n').collect();
+    let after = due.iter().try_fold(&lines[..], |rest, line| line.leads(rest).then(|| &rest[line.height()..]));
+    (!after.is_some_and(<[_]>::is_empty)).then(|| format!("is not what is due:\n{}", listed(due)))
 }
 
 fn lines_not_among(due: &[Line], others: &[Line], err: &[u8]) -> Option<String> {
     let text = String::from_utf8_lossy(err);
-    let lines: Vec<&str> = text.lines().collect();
-    let said = |known: &&Line| lines.iter().filter(|line| known.fits(line)).count();
+    let lines: Vec<&str> = text.split_terminator('\n').collect();
+    let said = |known: &Line| (0..lines.len()).filter(|&at| known.leads(&lines[at..])).count();
     // No two lines that are known here fit the same line.
-    let known: Vec<usize> = due.iter().chain(others).map(|line| said(&line)).collect();
-    let right = known[..due.len()].iter().all(|&number| number == 1)
-        && known[due.len()..].iter().all(|&number| number <= 1)
-        && known.iter().sum::<usize>() == lines.len();
+    let all: usize = due.iter().chain(others).map(|known| known.height() * said(known)).sum();
+    let right =
+        due.iter().all(|known| said(known) == 1) && others.iter().all(|known| said(known) <= 1) && all == lines.len();
     (!right).then(|| format!("is not what is due:\n{}", listed(due)))
 }
 
 fn listed(due: &[Line]) -> String {
-    let lines: Vec<String> = due.iter().map(|line| format!("  {line}")).collect();
+    let lines: Vec<String> = due.iter().map(|line| indented(&line.to_string())).collect();
     if lines.is_empty() {
         "  nothing".to_string()
     } else {

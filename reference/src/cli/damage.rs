@@ -11,6 +11,7 @@ use super::randomly::{events_text, font_text, number, screen_naming, screen_text
 use super::table::{SAMPLE_DRAWING, SAMPLE_GLYPHS, SAMPLE_TEXT};
 use super::text::BYTE_ORDER_MARK;
 use crate::cases::all as texts_by_hand;
+use crate::compare::hex::places;
 use crate::compare::hex::texts::random_text;
 use crate::model::hex::WRITTEN_TEXT;
 use crate::random::Random;
@@ -133,13 +134,17 @@ fn noise(random: &mut Random) -> Vec<u8> {
 }
 
 fn a_text(random: &mut Random) -> Vec<u8> {
-    match random.below(10) {
+    match random.below(12) {
         0 => noise(random),
         1 => damaged(SAMPLE_DRAWING, random),
         2..=4 => damaged(SAMPLE_TEXT, random),
         5 => {
             let text = font_text(random);
             damaged(text, random)
+        }
+        6 | 7 => {
+            let number = random.number() % places::TEXTS;
+            places::text(number, random)
         }
         _ => random_text(random),
     }
@@ -407,7 +412,7 @@ mod tests {
     #[test]
     fn damage_is_refused_taken_and_of_every_command() {
         let mut seen = std::collections::BTreeMap::new();
-        for index in 0..560 {
+        for index in 0..1120 {
             let case = cases(index, &mut Random::of_case(1, index));
             let command = case.words.first().map(|word| String::from_utf8_lossy(word).into_owned());
             *seen.entry((command.unwrap_or_default(), case.status)).or_insert(0) += 1;

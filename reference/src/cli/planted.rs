@@ -84,6 +84,273 @@ fn what_is_said_of_a_refusal_is_looked_at() {
     );
 }
 
+/// A stand-in that says these lines and ends with 1. What is no plain text is given by its number.
+fn says(lines: &[&str]) -> String {
+    let quoted = |line: &&str| format!("'{}'", line.replace('\\', "\\\\").replace('%', "%%").replace('\'', "'\\''"));
+    let all: Vec<String> = lines.iter().map(|line| format!("printf {}'\\n' >&2", quoted(line))).collect();
+    format!("{}; exit 1", all.join("; "))
+}
+
+/// The lines of a right message, with one of them exchanged or left out.
+fn other(right: &[&str], at: usize, line: Option<&str>) -> String {
+    let mut lines = right.to_vec();
+    match line {
+        Some(line) => lines[at] = line,
+        None => drop(lines.remove(at)),
+    }
+    says(&lines)
+}
+
+const NOT_DUE: &str = "standard error is not what is due";
+
+#[test]
+fn a_shown_line_and_its_mark_are_looked_at() {
+    // A control character before the bad one, and a blank at the end; the line is the second of three.
+    let text = b":0000000000\r\n:00\x1B00 001FF \r\n:00000001FF\r\n";
+    let case = check("a character", false, &[("a.hex", Some(text))]);
+    let message = r"a.hex:2: record 2: column 4: '\x1B' is no hexadecimal digit (refused 19 at 16)";
+    let right = [message, "    :00?00 001FF ", "       ^"];
+    let with = |at: usize, line: &str| (other(&right, at, Some(line)), NOT_DUE);
+    let wrong = [
+        // The message: the column from 0, of another character, in the text; the place in the line, of the line.
+        with(0, &message.replace("column 4", "column 3")),
+        with(0, &message.replace("column 4", "column 7")),
+        with(0, &message.replace("column 4", "column 17")),
+        with(0, &message.replace("at 16", "at 3")),
+        with(0, &message.replace("at 16", "at 13")),
+        with(0, &message.replace("at 16", "at 17")),
+        with(0, &message.replace("refused 19", "refused 20")),
+        with(0, &message.replace("refused 19", "refused 7")),
+        with(0, &message.replace(r"'\x1B'", "' '")),
+        with(0, &message.replace(r"'\x1B'", r"'\x1b'")),
+        with(0, &message.replace(":2: record 2", ":1: record 1")),
+        with(0, &message.replace("digit ", "digit: a control character ")),
+        // The line: another one, not its start, its end or its CR; one character for none, or for two.
+        with(1, "    :0000000000"),
+        with(1, "    :00000001FF"),
+        with(1, "    :00?00 001FF"),
+        with(1, "    :00?00 001FF ?"),
+        with(1, "    :00?00 001FF ..."),
+        with(1, "    00?00 001FF "),
+        with(1, "    :0000 001FF "),
+        with(1, r"    :00\x1B00 001FF "),
+        with(1, "    :00.00 001FF "),
+        with(1, "    :00 00 001FF "),
+        with(1, "    :00?00?001FF?"),
+        with(1, "    :00?00 001ff "),
+        // Behind as many blanks as are due.
+        with(1, ":00?00 001FF "),
+        with(1, "   :00?00 001FF "),
+        with(1, "     :00?00 001FF "),
+        with(1, "        :00?00 001FF "),
+        with(1, ""),
+        // The mark: a column off, under the line's start or another bad character, not alone, with more behind it.
+        with(2, "      ^"),
+        with(2, "        ^"),
+        with(2, "   ^"),
+        with(2, "    ^"),
+        with(2, "          ^"),
+        with(2, "       ^      ^"),
+        with(2, "       ^~~~~~"),
+        with(2, "       ^ "),
+        with(2, "       ^ here"),
+        with(2, "       |"),
+        with(2, "    ---^"),
+        with(2, ""),
+        // Something is missing, in another order, said twice, or there is more.
+        (other(&right, 0, None), NOT_DUE),
+        (other(&right, 1, None), NOT_DUE),
+        (other(&right, 2, None), NOT_DUE),
+        (says(&right[..1]), NOT_DUE),
+        (says(&[right[0], right[2], right[1]]), NOT_DUE),
+        (says(&[right[1], right[2], right[0]]), NOT_DUE),
+        (says(&[right, right].concat()), NOT_DUE),
+        (says(&[&right[..], &[""]].concat()), NOT_DUE),
+        (says(&[&right[..], &["a.hex: words"]].concat()), NOT_DUE),
+        // What a terminal obeys, and what is not ASCII; and all of it must be on standard error.
+        (says(&right).replace(":00?00", ":00\\03300"), NOT_DUE),
+        (says(&right).replace("?00 001FF ", "?00 001FF \\r"), NOT_DUE),
+        (says(&right).replace(":00?00", ":00\\302\\26700"), NOT_DUE),
+        (says(&right).replace("       ^", "\\t   ^"), NOT_DUE),
+        (says(&right).replacen(" >&2; printf '    :", "; printf '    :", 1), NOT_DUE),
+        (says(&right).replace(" >&2", ""), "standard output differs"),
+        (says(&right).replace("^''\\n'", "^'"), "does not end with a line's end"),
+        (says(&right).replace("exit 1", "exit 0"), "status 0, and 1 is due"),
+    ];
+    let wrong: Vec<(&str, &str)> = wrong.iter().map(|(script, words)| (&script[..], *words)).collect();
+    finds("character", &case, &says(&right), &wrong);
+}
+
+#[test]
+fn what_is_shown_of_a_long_line_is_looked_at() {
+    let digits: String = (0..200).map(|at| char::from(b"0123456789ABCDEF"[at % 16])).collect();
+    let text = format!(":{}x{}\n", &digits[..99], &digits[100..]);
+    let case = check("a long line", false, &[("a.hex", Some(text.as_bytes()))]);
+    let message = "a.hex:1: record 1: column 101: 'x' is no hexadecimal digit (refused 19 at 100)";
+    let mark = |before: usize| format!("    {}^", " ".repeat(before));
+    let part = |from: usize, to: usize| text[from..to].to_string();
+    let shown = |from: usize| format!("    ...{}...", part(from + 3, from + 69));
+    let right = [message, &shown(64), &mark(36)];
+    let said = |line: &str, mark: &str| (says(&[message, line, mark]), NOT_DUE);
+    let wrong = [
+        // From another byte on, the mark with it or not.
+        said(&shown(63), &mark(37)),
+        said(&shown(65), &mark(35)),
+        said(&shown(65), &mark(36)),
+        said(&shown(64), &mark(35)),
+        said(&shown(64), &mark(100)),
+        said(&shown(64), &mark(33)),
+        said(&shown(64), &mark(39)),
+        // The whole line, its first bytes, its last, the bytes from the character on.
+        said(&format!("    {}", text.trim_end()), &mark(100)),
+        said(&format!("    {}...", part(0, 69)), &mark(36)),
+        said(&format!("    ...{}", part(132, 201)), &mark(36)),
+        said(&format!("    {}...", part(100, 169)), &mark(0)),
+        // Not told that something is left out, told on one side only, beside the part, with other marks.
+        said(&format!("    {}", part(64, 136)), &mark(36)),
+        said(&format!("    ...{}", part(67, 136)), &mark(36)),
+        said(&format!("    {}...", part(64, 133)), &mark(36)),
+        said(&format!("    ...{}...", part(64, 136)), &mark(39)),
+        said(&format!("    ..{}..", part(66, 134)), &mark(36)),
+        said(&format!("    ....{}....", part(68, 132)), &mark(36)),
+        said(&format!("    ???{}???", part(67, 133)), &mark(36)),
+        // A byte more or less.
+        said(&format!("    ...{}...", part(67, 134)), &mark(36)),
+        said(&format!("    ...{}...", part(67, 132)), &mark(36)),
+    ];
+    let wrong: Vec<(&str, &str)> = wrong.iter().map(|(script, words)| (&script[..], *words)).collect();
+    finds("long-line", &case, &says(&right), &wrong);
+}
+
+#[test]
+fn at_the_ends_of_a_long_line_nothing_is_left_out_there() {
+    let cases = [
+        // 73 bytes, the bad one in the middle and one later; and the last byte of a longer line.
+        (73, 36, 0, 36),
+        (73, 37, 1, 36),
+        (200, 199, 128, 71),
+        (200, 163, 127, 36),
+        (200, 164, 128, 36),
+    ];
+    for (length, place, from, before) in cases {
+        let mut text = ":".to_string() + &"0123456789".repeat(20);
+        text.truncate(length);
+        text.replace_range(place..place + 1, "x");
+        let case = check("a long line", false, &[("a.hex", Some(text.as_bytes()))]);
+        let shown = |from: usize| {
+            let mut shown = text[from..from + 72].to_string();
+            shown.replace_range(..if from > 0 { 3 } else { 0 }, if from > 0 { "..." } else { "" });
+            if from + 72 < length {
+                shown.replace_range(69.., "...");
+            }
+            format!("    {shown}")
+        };
+        let column = place + 1;
+        let message =
+            format!("a.hex:1: record 1: column {column}: 'x' is no hexadecimal digit (refused 19 at {place})");
+        let mark = |before: usize| format!("    {}^", " ".repeat(before));
+        let other = if from + 72 < length { from + 1 } else { from - 1 };
+        finds(
+            "end-of-line",
+            &case,
+            &says(&[&message, &shown(from), &mark(before)]),
+            &[
+                (&says(&[&message, &shown(other), &mark(before + from - other)]), NOT_DUE),
+                (&says(&[&message, &shown(from), &mark(before + 1)]), NOT_DUE),
+                (&says(&[&message, &format!("    {}", &text[from..from + 72]), &mark(before)]), NOT_DUE),
+            ],
+        );
+    }
+}
+
+#[test]
+fn a_line_is_shown_only_where_it_is_due() {
+    let line = ["    :", "    ^"];
+    // A bad shape has none, nor a text that is something else.
+    for (text, message) in [
+        (&b":\n"[..], "a.hex:1: record 1: no byte follows the colon (refused 20 at 0)"),
+        (b"\n:0G\n", "a.hex:1: record 1: the line is empty: remove it (refused 20 at 0)"),
+        (b":000", "a.hex:1: record 1: an odd number of digits, 3: each byte has two (refused 20 at 0)"),
+        (b":0000", "a.hex:1: record 1: length 00 asks for 5 bytes, and the line has 2 (refused 20 at 0)"),
+        (b":00000001FE", "a.hex:1: record 1: FE, not FF (refused 8 at 0)"),
+        (b"\xEF\xBB\xBF:00000001FF", "a.hex:1: record 1: a byte order mark (refused 19 at 0)"),
+        (&[0; 8192], "a.hex:1: record 1: an image (refused 19 at 0)"),
+        (&[b'x'; 65_536], "a.hex: too long (refused 7 at 0)"),
+    ] {
+        let case = check("no line", false, &[("a.hex", Some(text))]);
+        let number = message.rsplit("refused ").next().unwrap_or_default();
+        finds(
+            "no-line",
+            &case,
+            &says(&[message]),
+            &[
+                (&says(&[&[message], &line[..]].concat()), NOT_DUE),
+                (&says(&[&message.replace(number, "7 at 1)")]), NOT_DUE),
+                (&says(&[&message.replace(" at 0)", " at 1)")]), NOT_DUE),
+            ],
+        );
+    }
+    // A first byte that is no colon has one, whatever it is.
+    let case = check("no colon", false, &[("a.hex", Some(b":0000000000\nABC\n"))]);
+    let right = ["a.hex:2: record 2: column 1: 'A' stands where a colon is due (refused 19 at 12)", "    ABC", "    ^"];
+    finds(
+        "no-colon",
+        &case,
+        &says(&right),
+        &[
+            (&says(&right[..1]), NOT_DUE),
+            (&other(&right, 0, Some(&right[0].replace("colon", "mark"))), NOT_DUE),
+            (&other(&right, 0, Some(&right[0].replace("19 at", "20 at"))), NOT_DUE),
+            (&other(&right, 1, Some("    :0000000000")), NOT_DUE),
+            (&other(&right, 2, Some("     ^")), NOT_DUE),
+        ],
+    );
+}
+
+#[test]
+fn a_shown_line_stays_with_its_message() {
+    // Where a warning may be said too, it comes before the three lines or after them.
+    let wide = format!("return 4 0\n{}", "space red\n".repeat(22));
+    let paint = Paint { screen: ("s", wide.as_bytes()), font: ("f", b":0O\n"), ..Paint::new(b"", b"") };
+    let right = ["f:1: record 1: column 3: 'O' is no hexadecimal digit (refused 19 at 2)", "    :0O", "      ^"];
+    let warning = "s: warning: the cells reach 1056 dots by 90 lines; at most 1024 by 1024 are painted";
+    let case = paint.case("a bad font");
+    let before = says(&[&[warning], &right[..]].concat());
+    let after = says(&[&right[..], &[warning]].concat());
+    assert_eq!(judged("stays", &case, &before), Ok(()));
+    assert_eq!(judged("stays", &case, &after), Ok(()));
+    finds(
+        "stays",
+        &case,
+        &says(&right),
+        &[
+            (&says(&[right[0], warning, right[1], right[2]]), NOT_DUE),
+            (&says(&[right[0], right[1], warning, right[2]]), NOT_DUE),
+            (&says(&[right[0], warning]), NOT_DUE),
+            (&says(&[&right[..], &right[1..]].concat()), NOT_DUE),
+            (&other(&right, 2, Some("     ^")), NOT_DUE),
+        ],
+    );
+    // Of two files each has its own.
+    let texts: [(&str, Option<&[u8]>); 2] = [("a", Some(b":G")), ("b", Some(b":0H"))];
+    let of = |file: &str, at: usize, letter: char| {
+        format!("{file}:1: record 1: column {}: '{letter}' is no hexadecimal digit (refused 19 at {at})", at + 1)
+    };
+    let (first, second) = (of("a", 1, 'G'), of("b", 2, 'H'));
+    let right = [&first, "    :G", "     ^", &second, "    :0H", "      ^"];
+    finds(
+        "of-two",
+        &check("two files", false, &texts),
+        &says(&right),
+        &[
+            (&says(&[right[0], right[3], right[1], right[2], right[4], right[5]]), NOT_DUE),
+            (&says(&[right[0], right[4], right[5], right[3], right[1], right[2]]), NOT_DUE),
+            (&says(&[right[3], right[4], right[5], right[0], right[1], right[2]]), NOT_DUE),
+            (&other(&right, 4, Some("    :G")), NOT_DUE),
+        ],
+    );
+}
+
 #[test]
 fn what_a_reason_names_is_looked_at() {
     let case = check("no end", false, &[("a.hex", Some(b""))]);

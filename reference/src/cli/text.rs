@@ -26,6 +26,11 @@ fn line_of(text: &[u8], place: usize) -> usize {
     text[..place].iter().filter(|&&byte| byte == b'\n').count() + 1
 }
 
+/// Where the line that has a place of the text starts.
+fn start_of_line(text: &[u8], place: usize) -> usize {
+    text[..place].iter().rposition(|&byte| byte == b'\n').map_or(0, |end| end + 1)
+}
+
 /// The last line, which for an empty text is the first.
 fn last_line(text: &[u8]) -> usize {
     line_of(text, text.len().saturating_sub(1))
@@ -55,23 +60,63 @@ fn bytes_of(line: &[u8]) -> Vec<u8> {
     (0..digits.len()).step_by(2).map_while(two).collect()
 }
 
-/// What is said of a line that has not a record's shape.
+/// A line above so many bytes is shown in part.
+const SHOWN: usize = 72;
+/// What the shown line and the mark begin with.
+const INDENT: &str = "    ";
+
+/// A line as it is shown under a message, and below it the mark under one of its characters.
+fn shown(line: &[u8], character: usize) -> [String; 2] {
+    // Half of what is shown lies before the character, unless the line begins or ends within that.
+    let from = character.saturating_sub(SHOWN / 2).min(line.len().saturating_sub(SHOWN));
+    let to = line.len().min(from + SHOWN);
+    let seen = |&byte: &u8| if (b' '..=b'~').contains(&byte) { char::from(byte) } else { '?' };
+    let mut part: String = line[from..to].iter().map(seen).collect();
+    if from > 0 {
+        part.replace_range(..3, "...");
+    }
+    if to < line.len() {
+        part.replace_range(part.len() - 3.., "...");
+    }
+    [format!("{INDENT}{part}"), format!("{INDENT}{}^", " ".repeat(character - from))]
+}
+
+/// A bad character as a message names it.
+fn quoted(byte: u8) -> String {
+    match byte {
+        b' '..=b'~' => format!("'{}'", char::from(byte)),
+        _ => format!("'\\x{byte:02X}'"),
+    }
+}
+
+/// The message about a bad character of a line, of which start and end are given.
+fn character_line(start: &str, end: &str, line: &[u8], character: usize) -> Line {
+    let what = quoted(line[character]);
+    let message = match character {
+        0 => Line::new(start, end).naming(format!("column 1: {what}")).naming("colon"),
+        _ => Line::new(format!("{start}column {}: {what} is no hexadecimal digit", character + 1), end).without_more(),
+    };
+    message.over(shown(line, character))
+}
+
+/// What is said of a line that has no bad character and not a record's shape.
 fn shape_names(line: &[u8]) -> Vec<String> {
-    let bad = line.iter().skip(1).position(|byte| !byte.is_ascii_hexdigit());
-    match line {
-        [] => vec!["empty".to_string()],
-        [b':', ..] => match bad {
-            Some(at) => vec![format!("column {}: '", at + 2), "' is no hexadecimal digit".to_string()],
-            None if line.len() % 2 == 0 => vec!["odd".to_string()],
-            None => Vec::new(),
-        },
-        _ => vec!["colon".to_string()],
+    let digits = line.len().saturating_sub(1);
+    let bytes = bytes_of(line);
+    match bytes.first() {
+        _ if line.is_empty() => vec!["the line is empty: remove it".to_string()],
+        _ if digits % 2 == 1 => vec![format!("an odd number of digits, {digits}: each byte has two")],
+        None => vec!["no byte follows the colon".to_string()],
+        Some(&length) => vec![
+            format!("length {length:02X} asks for {} bytes", 5 + usize::from(length)),
+            format!("has {}", bytes.len()),
+        ],
     }
 }
 
 /// What a message names of a record beside its number.
 fn record_names(number: u32, line: &[u8], before: &[u8]) -> Vec<String> {
-    if number == 7 {
+    if number == 20 {
         return shape_names(line);
     }
     let bytes = bytes_of(line);
@@ -105,25 +150,39 @@ fn image_names(address: usize) -> Vec<String> {
     vec![format!("{address:04X}"), holder]
 }
 
+/// What names that a text which is refused at its start is another thing altogether, if it is.
+fn something_else(text: &[u8]) -> Option<Vec<String>> {
+    if text.starts_with(BYTE_ORDER_MARK) {
+        return Some(vec![MARK_NAMED.to_string()]);
+    }
+    // An image has a hint of its own.
+    (text.len() == IMAGE_BYTES && text[0] != b':').then(Vec::new)
+}
+
 fn refusal_line(name: &str, text: &[u8], refusal: Refusal) -> Line {
     let Refusal { number, place } = refusal;
     let at = place as usize;
     let end = format!(" (refused {number} at {place})");
-    let (line, record, names) = match number {
-        7 if text.len() > hex::LONGEST_TEXT => return Line::new(format!("{name}: "), end),
-        12 if at == text.len() => (last_line(text), false, vec![":00000001FF".to_string()]),
-        12 => (line_of(text, at), false, Vec::new()),
-        13 => (givers(text)[at].expect("a byte that is not given is FF"), true, image_names(at)),
-        7 if at == 0 && text.starts_with(BYTE_ORDER_MARK) => (1, true, vec![MARK_NAMED.to_string()]),
-        // An image has a hint of its own.
-        7 if at == 0 && text.len() == IMAGE_BYTES && text[0] != b':' => (1, true, Vec::new()),
+    let start_of_record = |line: usize| format!("{name}:{line}: record {line}: ");
+    let (start, names) = match (number, something_else(text)) {
+        (7, _) => (format!("{name}: "), Vec::new()),
+        (12, _) if at == text.len() => (format!("{name}:{}: ", last_line(text)), vec![":00000001FF".to_string()]),
+        (12, _) => (format!("{name}:{}: ", line_of(text, at)), Vec::new()),
+        (13, _) => {
+            let line = givers(text)[at].expect("a byte that is not given is FF");
+            (start_of_record(line), image_names(at))
+        }
+        (19 | 20, Some(names)) if at == 0 => (start_of_record(1), names),
         _ => {
-            let body = lines(&text[at..]).first().copied().unwrap_or_default();
-            (line_of(text, at), true, record_names(number, body, &text[..at]))
+            let (line, first) = (line_of(text, at), start_of_line(text, at));
+            let body = lines(&text[first..]).first().copied().unwrap_or_default();
+            if number == 19 {
+                return character_line(&start_of_record(line), &end, body, at - first);
+            }
+            (start_of_record(line), record_names(number, body, &text[..at]))
         }
     };
-    let record = if record { format!("record {line}: ") } else { String::new() };
-    names.into_iter().fold(Line::new(format!("{name}:{line}: {record}"), end), Line::naming)
+    names.into_iter().fold(Line::new(start, end), Line::naming)
 }
 
 /// Reads a text as `check` does, or gives the line that says why it is refused.
@@ -210,26 +269,110 @@ mod tests {
         assert_eq!(said(b":0000000000\n"), "F:1: ..:00000001FF.. (refused 12 at 12)");
         assert_eq!(said(b":0000000000\n:0000000000\n"), "F:2: ..:00000001FF.. (refused 12 at 24)");
         assert_eq!(said(b":00000001FF\n\n"), "F:2: .. (refused 12 at 12)");
-        assert_eq!(said(b":0000000000\n\n"), "F:2: record 2: ..empty.. (refused 7 at 12)");
+        let empty = "the line is empty: remove it";
+        assert_eq!(said(b":0000000000\n\n"), format!("F:2: record 2: ..{empty}.. (refused 20 at 12)"));
         assert_eq!(said(b":00000001FE"), "F:1: record 1: ..FE..FF.. (refused 8 at 0)");
         assert_eq!(said(&[b'\n'; 65_536]), "F: .. (refused 7 at 0)");
-        assert_eq!(said(&[b'\n'; 65_535]), "F:1: record 1: ..empty.. (refused 7 at 0)");
+        assert_eq!(said(&[b'\n'; 65_535]), format!("F:1: record 1: ..{empty}.. (refused 20 at 0)"));
     }
 
     #[test]
     fn reasons_name_what_is_wrong() {
         let reason = |text: &[u8]| said(text).replace("F:1: record 1: ..", "");
-        assert_eq!(reason(b":00x0000000\r\n"), "column 4: '..' is no hexadecimal digit.. (refused 7 at 0)");
-        assert_eq!(reason(b":0000000000\r"), "column 12: '..' is no hexadecimal digit.. (refused 7 at 0)");
-        assert_eq!(reason(b"x\n"), "colon.. (refused 7 at 0)");
-        assert_eq!(reason(b":000\r\n"), "odd.. (refused 7 at 0)");
-        assert_eq!(reason(b":0000\r\n"), " (refused 7 at 0)");
+        assert_eq!(reason(b":000\r\n"), "an odd number of digits, 3: each byte has two.. (refused 20 at 0)");
+        assert_eq!(reason(b":0000\r\n"), "length 00 asks for 5 bytes..has 2.. (refused 20 at 0)");
+        assert_eq!(reason(b":0A0000000000"), "length 0A asks for 15 bytes..has 6.. (refused 20 at 0)");
+        assert_eq!(reason(b":\n"), "no byte follows the colon.. (refused 20 at 0)");
         assert_eq!(reason(b":00000005FB\n"), "05.. (refused 9 at 0)");
         assert_eq!(reason(b":0100000100FE\n"), "length.. (refused 9 at 0)");
         assert_eq!(reason(b":00000701F8\n"), "address.. (refused 9 at 0)");
         assert_eq!(reason(b":0120000000DF\n"), "2000.. (refused 10 at 0)");
         let twice = b":0100060000F9\n:0100040000FB\n:03000500000000F8\n";
         assert_eq!(said(twice), "F:3: record 3: ..0006..line 1.. (refused 11 at 28)");
+    }
+
+    #[test]
+    fn the_worked_message() {
+        let written = written_text(&[0xFF; IMAGE_BYTES]);
+        let due = "F:2: record 2: column 44: ' ' is no hexadecimal digit (refused 19 at 87)
+    :10001000FFFFFFFFFFFFFFFFFFFFFFFFFFFFFFFFF0\u{20}
+                                               ^";
+        assert_eq!(said([&written[..87], " ", &written[87..]].concat().as_bytes()), due);
+    }
+
+    #[test]
+    fn a_bad_character_is_shown_in_its_line_and_marked() {
+        let due = |text: &[u8], column: usize, character: &str, line: &str| {
+            let message = format!("F:1: record 1: column {column}: '{character}' is no hexadecimal digit");
+            let blanks = " ".repeat(column - 1);
+            assert_eq!(said(text), format!("{message} (refused 19 at {})\n    {line}\n    {blanks}^", column - 1));
+        };
+        due(b":00x0000000\r\n", 4, "x", ":00x0000000");
+        due(b":0000000000\r", 12, "\\x0D", ":0000000000?");
+        due(b":00\r\r\r\n", 4, "\\x0D", ":00??");
+        due(b":\x1B[2J\n", 2, "\\x1B", ":?[2J");
+        due(b":0'\xFF\x7F\0\t", 3, "'", ":0'????");
+        due(b":00000001FF ", 12, " ", ":00000001FF ");
+    }
+
+    #[test]
+    fn a_first_byte_that_is_no_colon_is_marked_too() {
+        let due = "F:1: record 1: ..column 1: '0'..colon.. (refused 19 at 0)\n    0000000000\n    ^";
+        assert_eq!(said(b"0000000000\n"), due);
+        let due = "F:2: record 2: ..column 1: '\\xE9'..colon.. (refused 19 at 13)\n    ? \n    ^";
+        assert_eq!(said(b":0000000000\r\n\xE9 \r\n:00000001FF\r\n"), due);
+    }
+
+    #[test]
+    fn of_a_long_line_a_part_is_shown() {
+        let line: Vec<u8> = (0..200).map(|at| b"0123456789"[at % 10]).collect();
+        let part =
+            |length: usize, character: usize| shown(&line[..length], character).map(|line| line[4..].to_string());
+        let digits = |from: usize, to: usize| String::from_utf8(line[from..to].to_vec()).unwrap();
+        let mark = |before: usize| format!("{}^", " ".repeat(before));
+        // Up to 72 bytes all of it.
+        for (length, character) in [(1, 0), (44, 43), (72, 0), (72, 36), (72, 37), (72, 71)] {
+            assert_eq!(part(length, character), [digits(0, length), mark(character)]);
+        }
+        // With one byte more the last is left out, or for a character at place 37 or later the first.
+        for (character, due, before) in [
+            (0, digits(0, 69) + "...", 0),
+            (36, digits(0, 69) + "...", 36),
+            (37, "...".to_string() + &digits(4, 73), 36),
+            (72, "...".to_string() + &digits(4, 73), 71),
+        ] {
+            assert_eq!(part(73, character), [due, mark(before)], "{character}");
+        }
+        // Both sides, as long as a byte is left out on the right.
+        assert_eq!(part(200, 37), ["...".to_string() + &digits(4, 70) + "...", mark(36)]);
+        assert_eq!(part(200, 100), ["...".to_string() + &digits(67, 133) + "...", mark(36)]);
+        assert_eq!(part(200, 163), ["...".to_string() + &digits(130, 196) + "...", mark(36)]);
+        assert_eq!(part(200, 164), ["...".to_string() + &digits(131, 200), mark(36)]);
+        assert_eq!(part(200, 199), ["...".to_string() + &digits(131, 200), mark(71)]);
+    }
+
+    #[test]
+    fn the_marked_character_is_always_seen() {
+        for length in 1..=220 {
+            for character in 0..length {
+                let mut line = vec![b'0'; length];
+                line[character] = b'x';
+                let [part, mark] = shown(&line, character);
+                assert!(part.len() <= 4 + 72 && part.starts_with("    "));
+                assert_eq!(part.as_bytes()[mark.len() - 1], b'x', "{character} of {length}");
+                assert_eq!(mark.trim_start(), "^");
+            }
+        }
+    }
+
+    #[test]
+    fn a_text_that_is_something_else_has_no_line_shown() {
+        assert_eq!(said(b"\xEF\xBB\xBF:00000001FF\n"), "F:1: record 1: ..byte order mark.. (refused 19 at 0)");
+        assert_eq!(said(&[0; 8192]), "F:1: record 1: .. (refused 19 at 0)");
+        assert_eq!(said(&[b'\n'; 8192]), "F:1: record 1: .. (refused 20 at 0)");
+        // One byte less or more is no image, and neither is what begins as a text does.
+        assert!(said(&[0; 8191]).contains('^') && said(&[0; 8193]).contains('^'));
+        assert!(said(&[b':'; 8192]).contains("column 2: ':' is no hexadecimal digit (refused 19 at 1)\n"));
     }
 
     #[test]

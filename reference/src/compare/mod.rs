@@ -9,6 +9,7 @@ pub mod paint;
 pub mod port;
 pub mod pulse;
 mod rooms;
+mod rows;
 
 use crate::random::Random;
 use std::time::{Duration, Instant};

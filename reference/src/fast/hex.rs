@@ -1,10 +1,9 @@
 //! The hex text in one pass over its bytes, with tables for the digits.
 
-use super::Fast;
+use super::{font_refusal, Fast, FONT_ROWS};
 use crate::parts::{Answer, Hex};
 
 const IMAGE_BYTES: usize = 8192;
-const FONT_ROWS: usize = 1116;
 const TEXT_BYTES: usize = 22_540;
 
 /// The value of a digit; anything else has the top bit set, so that a whole record can be judged by one or.
@@ -70,6 +69,20 @@ fn record<'a>(rest: &[u8], bytes: &'a mut [u8; 260]) -> Option<(&'a [u8], usize)
     Some((bytes, next))
 }
 
+/// What is said of a line that starts here and has not the shape: the good bytes at its front are passed over, and what
+/// stands behind them is the line's end or a bad character.
+fn misshapen(text: &[u8], start: usize) -> Answer {
+    let line = &text[start..];
+    let good = match line {
+        [b':', digits @ ..] => 1 + digits.iter().take_while(|&&byte| VALUE[usize::from(byte)] < 16).count(),
+        _ => 0,
+    };
+    match line[good..] {
+        [] | [b'\n', ..] | [b'\r', b'\n', ..] => Answer::refused(20, start as u32),
+        _ => Answer::refused(19, (start + good) as u32),
+    }
+}
+
 fn image_of(font: &[u16], image: &mut [u8; IMAGE_BYTES]) {
     image.fill(0xFF);
     let (low, high) = image.split_at_mut(4096);
@@ -115,7 +128,7 @@ impl Hex for Fast {
         while start < text.len() {
             let place = start as u32;
             let Some((bytes, length)) = record(&text[start..], &mut buffer) else {
-                return Answer::refused(7, place);
+                return misshapen(text, start);
             };
             start += length;
             if bytes.iter().fold(0u8, |sum, &byte| sum.wrapping_add(byte)) != 0 {
@@ -148,8 +161,8 @@ impl Hex for Fast {
     }
 
     fn write(&self, font: &[u16], text: &mut [u8]) -> Answer {
-        if font.len() != FONT_ROWS || font.iter().fold(0, |all, row| all | row) > 4095 {
-            return Answer::refused(4, 0);
+        if let Some(refusal) = font_refusal(font) {
+            return refusal;
         }
         if text.len() < TEXT_BYTES {
             return Answer::refused(6, 0);

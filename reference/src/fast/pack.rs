@@ -1,10 +1,8 @@
 //! The packer by a map from a glyph's rows to its cell.
 
-use super::Fast;
+use super::{Fast, FONT_ROWS};
 use crate::parts::{Answer, Pack};
 use std::collections::HashMap;
-
-const FONT_ROWS: usize = 1116;
 
 impl Pack for Fast {
     fn pack(&self, glyphs: &[u16], font: &mut [u16], cells: &mut [u8]) -> Answer {

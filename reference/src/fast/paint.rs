@@ -1,32 +1,31 @@
 //! The painter row by row: the words before the line's row are skimmed, the row's own are painted from left to right.
 
-use super::Fast;
+use super::{font_refusal, Fast};
 use crate::parts::{Answer, Paint, PaintOrder, Settings};
 
-const FONT_ROWS: usize = 1116;
-
-fn refusal(order: &PaintOrder, room: usize) -> u32 {
+fn refusal(order: &PaintOrder, room: usize) -> Option<Answer> {
+    let plain = |number| Some(Answer::refused(number, 0));
     let Settings { mode, colour, h, v, ratio, frequency, .. } = order.settings;
     if (mode | ratio | frequency) > 3 || colour > 7 || (h | v) > 63 {
-        return 1;
+        return plain(1);
     }
     if ratio == 3 {
-        return 2;
+        return plain(2);
     }
     // Or-ing before the test lets the compiler take many words at a time.
     if order.words.len() != 64 || order.words.iter().fold(0, |all, word| all | word) > 1023 {
-        return 3;
+        return plain(3);
     }
-    if order.font.len() != FONT_ROWS || order.font.iter().fold(0, |all, row| all | row) > 4095 {
-        return 4;
+    if let Some(refusal) = font_refusal(order.font) {
+        return Some(refusal);
     }
     if order.line > 1023 || order.width > 1024 {
-        return 5;
+        return plain(5);
     }
     if (order.width as usize) > room {
-        return 6;
+        return plain(6);
     }
-    0
+    None
 }
 
 fn blinked_out(settings: &Settings, frame: u32) -> bool {
@@ -63,9 +62,8 @@ fn paint_cell<const SIZE: usize>(bits: u16, shadow: u16, ink: &Ink, dots: &mut [
 
 impl Paint for Fast {
     fn paint(&self, order: &PaintOrder, dots: &mut [u8]) -> Answer {
-        let number = refusal(order, dots.len());
-        if number != 0 {
-            return Answer::refused(number, 0);
+        if let Some(refusal) = refusal(order, dots.len()) {
+            return refusal;
         }
         let settings = &order.settings;
         let dots = &mut dots[..order.width as usize];
@@ -118,7 +116,8 @@ impl Paint for Fast {
             let cell = &mut dots[left..end];
             left += width;
             let (mut bits, mut above) = (0, 0);
-            if !space && !(hidden && attributes & 1 == 1) {
+            let blinked_out = hidden && attributes & 1 == 1;
+            if !space && !blinked_out {
                 let row = ((order.line - top) / size) as usize;
                 bits = order.font[18 * code + row];
                 if settings.mode == 1 && row > 0 {

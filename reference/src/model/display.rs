@@ -183,22 +183,13 @@ fn judge(order: &PaintOrder, room: usize) -> Result<(), Refusal> {
         && settings.v <= 63
         && settings.ratio <= 3
         && settings.frequency <= 3;
-    let number = if !in_range {
-        1
-    } else if settings.ratio == 3 {
-        2
-    } else if order.words.len() != WORDS || order.words.iter().any(|&word| word > 1023) {
-        3
-    } else if !image::is_font(order.font) {
-        4
-    } else if order.line > LAST_LINE || order.width > WIDEST {
-        5
-    } else if room < order.width as usize {
-        6
-    } else {
-        return Ok(());
-    };
-    Err(Refusal::plain(number))
+    let refuse = |number, applies| if applies { Err(Refusal::plain(number)) } else { Ok(()) };
+    refuse(1, !in_range)?;
+    refuse(2, settings.ratio == 3)?;
+    refuse(3, order.words.len() != WORDS || order.words.iter().any(|&word| word > 1023))?;
+    image::judge_font(order.font)?;
+    refuse(5, order.line > LAST_LINE || order.width > WIDEST)?;
+    refuse(6, room < order.width as usize)
 }
 
 /// Paints one line into the first bytes of the room.
@@ -545,6 +536,7 @@ mod tests {
         let bad_words = vec![1024; WORDS];
         let good_font = vec![0; FONT_ROWS];
         let bad_font = vec![4096; FONT_ROWS];
+        let short_font = vec![4096; FONT_ROWS - 1];
         let bad_settings = Settings { h: 64, ..settings(0) };
         let off = Settings { on: false, ratio: 3, ..settings(0) };
         let refused = |settings, words: &[u16], font: &[u16], line, width, room: usize| {
@@ -556,13 +548,18 @@ mod tests {
                 refusal.number
             })
         };
-        assert_eq!(refused(bad_settings, &bad_words, &bad_font, 1024, 1025, 0), 1);
-        assert_eq!(refused(Settings { ratio: 3, ..bad_settings }, &bad_words, &bad_font, 1024, 1025, 0), 1);
+        assert_eq!(refused(bad_settings, &bad_words, &short_font, 1024, 1025, 0), 1);
+        assert_eq!(refused(Settings { ratio: 3, ..bad_settings }, &bad_words, &short_font, 1024, 1025, 0), 1);
+        assert_eq!(refused(off, &bad_words, &short_font, 1024, 1025, 0), 2);
         assert_eq!(refused(off, &bad_words, &bad_font, 1024, 1025, 0), 2);
+        assert_eq!(refused(settings(0), &bad_words, &short_font, 1024, 1025, 0), 3);
         assert_eq!(refused(settings(0), &bad_words, &bad_font, 1024, 1025, 0), 3);
         assert_eq!(refused(settings(0), &good_words[1..], &bad_font, 1024, 1025, 0), 3);
-        assert_eq!(refused(settings(0), &good_words, &bad_font, 1024, 1025, 0), 4);
+        assert_eq!(refused(settings(0), &good_words, &short_font, 1024, 1025, 0), 4);
         assert_eq!(refused(settings(0), &good_words, &good_font[1..], 1024, 1025, 0), 4);
+        assert_eq!(refused(settings(0), &good_words, &bad_font, 1024, 1025, 0), 18);
+        assert_eq!(refused(settings(0), &good_words, &bad_font, 0, 1025, 2000), 18);
+        assert_eq!(refused(settings(0), &good_words, &bad_font, 0, 1, 0), 18);
         assert_eq!(refused(settings(0), &good_words, &good_font, 0, 1025, 0), 5);
         assert_eq!(refused(settings(0), &good_words, &good_font, 1024, 0, 0), 5);
         assert_eq!(refused(settings(0), &good_words, &good_font, 1023, 0, 0), 0);
@@ -570,7 +567,8 @@ mod tests {
         assert_eq!(refused(settings(0), &good_words, &good_font, 1023, 1024, 1023), 6);
         // Off or not, and whether or not anything blinks: the values are judged all the same.
         let plainly_off = Settings { on: false, ..settings(0) };
-        assert_eq!(refused(plainly_off, &good_words, &bad_font, 0, 0, 0), 4);
+        assert_eq!(refused(plainly_off, &good_words, &short_font, 0, 0, 0), 4);
+        assert_eq!(refused(plainly_off, &good_words, &bad_font, 0, 0, 0), 18);
         assert_eq!(refused(plainly_off, &good_words, &good_font, 0, 1, 0), 6);
         assert_eq!(refused(plainly_off, &good_words, &good_font, 0, 0, 0), 0);
         for bad in [
@@ -582,6 +580,21 @@ mod tests {
             Settings { on: false, frequency: u32::MAX, ..settings(0) },
         ] {
             assert_eq!(refused(bad, &good_words, &good_font, 0, 0, 0), 1);
+        }
+    }
+
+    #[test]
+    fn a_row_too_large_is_told_by_its_index_whether_or_not_the_line_shows_it() {
+        let words = screen(&[1009]);
+        for row in [0, 1, 17, 18, 599, 1114, 1115] {
+            let mut font = vec![0; FONT_ROWS];
+            (font[row], font[FONT_ROWS - 1]) = (4096, 65_535);
+            for line in [0, 17, 1023, 1024] {
+                let order = PaintOrder { words: &words, font: &font, settings: settings(2), frame: 0, line, width: 3 };
+                let mut dots = [99; 2];
+                assert_eq!(paint(&order, &mut dots), Err(Refusal { number: 18, place: row as u32 }));
+                assert_eq!(dots, [99; 2]);
+            }
         }
     }
 }

@@ -44,5 +44,16 @@ mod tests {
     #[test]
     fn a_text_too_long() {
         assert_eq!(line(&[b'\n'; 65_536]), "refused 7 at 0\n");
+        assert_eq!(line(&[b'\n'; 65_535]), "refused 20 at 0\n");
+        assert_eq!(line(&[b'x'; 65_535]), "refused 19 at 0\n");
+    }
+
+    #[test]
+    fn the_finer_numbers() {
+        assert_eq!(line(b":04000000000F00F0FD\n:0000 0001FF\n"), "refused 19 at 25\n");
+        assert_eq!(line(b":04000000000F00F0FD\r\n00000001FF\r\n"), "refused 19 at 21\n");
+        assert_eq!(line(b":04000000000F00F0FD\n:00000001FF\r"), "refused 19 at 31\n");
+        assert_eq!(line(b":04000000000F00F0FD\n:00000001F\n"), "refused 20 at 20\n");
+        assert_eq!(line(b":04000000000F00F0FD\n\n:00000001FF\n"), "refused 20 at 20\n");
     }
 }

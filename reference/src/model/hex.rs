@@ -54,6 +54,14 @@ fn digit(byte: u8) -> Option<u8> {
     }
 }
 
+/// Where a line has its first bad character: it begins with a colon, and all that follows are digits.
+fn bad_character(body: &[u8]) -> Option<usize> {
+    (0..body.len()).find(|&at| match at {
+        0 => body[at] != b':',
+        _ => digit(body[at]).is_none(),
+    })
+}
+
 /// The record of a line, or nothing if the line does not have the shape.
 fn record(body: &[u8]) -> Option<Record> {
     let digits = body.strip_prefix(b":")?;
@@ -74,10 +82,10 @@ fn record(body: &[u8]) -> Option<Record> {
     })
 }
 
-/// The number of the first rule of the table that a line breaks, if it breaks one.
+/// The number of the first rule of the table that a line without a bad character breaks, if it breaks one.
 fn fault(record: Option<&Record>, given: &[Option<u8>]) -> Option<u32> {
     let Some(record) = record else {
-        return Some(7);
+        return Some(20);
     };
     if record.sum != 0 {
         return Some(8);
@@ -106,6 +114,9 @@ pub fn read(text: &[u8], room: &mut [u8]) -> Result<u32, Refusal> {
     let mut given: Vec<Option<u8>> = vec![None; IMAGE_BYTES];
     let mut count = 0;
     for line in lines(text) {
+        if let Some(at) = bad_character(line.body) {
+            return Err(Refusal { number: 19, place: (line.start + at) as u32 });
+        }
         let record = record(line.body);
         if let Some(number) = fault(record.as_ref(), &given) {
             return Err(Refusal { number, place: line.start as u32 });
@@ -149,9 +160,7 @@ pub fn written_text(image: &[u8]) -> String {
 
 /// Writes the text of a font into the first bytes of the room.
 pub fn write(font: &[u16], room: &mut [u8]) -> Result<(), Refusal> {
-    if !image::is_font(font) {
-        return Err(Refusal::plain(4));
-    }
+    image::judge_font(font)?;
     if room.len() < WRITTEN_TEXT {
         return Err(Refusal::plain(6));
     }
@@ -231,16 +240,28 @@ mod tests {
         assert_eq!(write(&font[1..], &mut room), Err(Refusal::plain(4)));
         assert_eq!(write(&font, &mut room[1..]), Err(Refusal::plain(6)));
         font[FONT_ROWS - 1] = 4096;
-        assert_eq!(write(&font, &mut room[1..]), Err(Refusal::plain(4)));
+        assert_eq!(write(&font[1..], &mut room[1..]), Err(Refusal::plain(4)));
+        assert_eq!(write(&font, &mut room[1..]), Err(Refusal { number: 18, place: 1115 }));
+        font[0] = 65_535;
+        assert_eq!(write(&font, &mut room), Err(Refusal { number: 18, place: 0 }));
         assert!(room.iter().all(|&byte| byte == 1));
     }
 
     #[test]
     fn a_short_room_comes_before_a_long_text() {
-        let text = vec![b'0'; 65_536];
+        let mut text = vec![b'0'; 65_536];
         let mut room = vec![0; IMAGE_BYTES];
         assert_eq!(read(&text, &mut room[1..]), Err(Refusal::plain(6)));
         assert_eq!(read(&text, &mut room), Err(Refusal::plain(7)));
+        // And before a bad character or a bad shape; a text that is not too long has these.
+        text.truncate(65_535);
+        assert_eq!(read(&text, &mut room[1..]), Err(Refusal::plain(6)));
+        assert_eq!(refusal(&text), (19, 0));
+        text.fill(b'\n');
+        assert_eq!(read(&text, &mut room[1..]), Err(Refusal::plain(6)));
+        assert_eq!(refusal(&text), (20, 0));
+        text.push(b'\n');
+        assert_eq!(refusal(&text), (7, 0));
     }
 
     #[test]
@@ -260,50 +281,156 @@ mod tests {
         assert_eq!(refusal(&text), (7, 0));
     }
 
+    /// Puts a line first, in the middle and last, with each line end and at the very end of the text, and wants it
+    /// refused with this number, at its start or as many bytes after it.
+    fn refused_everywhere(line: impl AsRef<[u8]>, number: u32, at: u32) {
+        let line = line.as_ref();
+        for end in ["\n", "\r\n"] {
+            let idle = [b":0000000000", end.as_bytes()].concat();
+            let line_and_end = [line, end.as_bytes()].concat();
+            for before in 0..3 {
+                let before = idle.repeat(before);
+                let due = (number, before.len() as u32 + at);
+                assert_eq!(refusal([&before, &line_and_end, END.as_bytes()].concat()), due, "{}", line.escape_ascii());
+                assert_eq!(refusal([&before, &line_and_end[..]].concat()), due, "{}", line.escape_ascii());
+                if !line.is_empty() {
+                    assert_eq!(refusal([&before, line].concat()), due, "{}", line.escape_ascii());
+                }
+            }
+        }
+    }
+
     #[test]
-    fn shapes() {
+    fn a_bad_character_is_told_by_its_own_place() {
+        for (line, at) in [
+            // The first byte that is no colon, be it a digit.
+            ("0", 0),
+            ("x", 0),
+            ("00000001FF", 0),
+            (";00000001FF", 0),
+            (" :00000001FF", 0),
+            ("\u{0}:00000001FF", 0),
+            // Blanks, NUL and the neighbours of the digits among the letters.
+            (":00000001FF ", 11),
+            (":00000001 FF", 9),
+            (":0000 0001FF", 5),
+            (":0000000\t1FF", 8),
+            (":0000\u{0}001FF", 5),
+            (":0000000GFF", 8),
+            (":0000000gFF", 8),
+            (":0000000/FF", 8),
+            (":0000000@FF", 8),
+            (":0000000`FF", 8),
+            (":00000001FG", 10),
+            // A second colon, next to the first one or later.
+            ("::00000001FF", 1),
+            (":0000:0001FF", 5),
+            (":00000001FF:", 11),
+            (": ", 1),
+        ] {
+            refused_everywhere(line, 19, at);
+        }
+    }
+
+    #[test]
+    fn bytes_above_127_are_bad_characters() {
+        for byte in 128..=255 {
+            refused_everywhere([byte], 19, 0);
+            refused_everywhere([b":00000001", &[byte][..], b"F"].concat(), 19, 9);
+        }
+        refused_everywhere(b"\xEF\xBB\xBF:00000001FF", 19, 0);
+    }
+
+    #[test]
+    fn no_other_byte_is_a_digit() {
+        for byte in (0..=255).filter(|byte| !b"\r\n0123456789ABCDEFabcdef".contains(byte)) {
+            refused_everywhere([b":0000000", &[byte][..], b"FF"].concat(), 19, 8);
+        }
+    }
+
+    #[test]
+    fn any_other_fault_of_shape_is_told_by_the_lines_start() {
         for line in [
             "",
             ":",
-            "0",
-            "00000001FF",
-            " :00000001FF",
-            ":00000001FF ",
+            // An odd number of digits.
+            ":0",
             ":00000001F",
             ":00000001FFF",
-            ":0000000",
+            // Too few bytes for any record, for the length, and too many.
+            ":00",
             ":000000FF",
-            ":0000 0001FF",
-            ":0000000\t1FF",
-            "::00000001FF",
-            ":0000000GFF",
             ":01000001FE",
             ":01000000FF",
+            ":FF00000001",
             ":00000000FF00",
-            ":00000001FF\r\r",
-            ":0000\r0001FF",
-            ":0000\u{0}001FF",
-            ":00000001\u{ff}F",
+            ":0000000000FF01",
         ] {
-            assert_eq!(refusal(format!("{line}\n{END}")), (7, 0), "{line:?}");
+            refused_everywhere(line, 20, 0);
         }
-        assert_eq!(refusal("\n"), (7, 0));
-        assert_eq!(refusal("\r\n"), (7, 0));
-        assert_eq!(refusal("\r"), (7, 0));
+    }
+
+    #[test]
+    fn of_several_bad_characters_the_first_is_told() {
+        refused_everywhere("xyz", 19, 0);
+        refused_everywhere(":0G0H000I", 19, 2);
+        refused_everywhere(":00000001F  ", 19, 10);
+        refused_everywhere(b"\xFF\xFE", 19, 0);
+    }
+
+    #[test]
+    fn a_bad_character_comes_before_the_count_of_digits() {
+        // One digit less, one more, a length that says more and one that says less, and a colon with nothing good after it.
+        refused_everywhere(":0000000G1F", 19, 8);
+        refused_everywhere(":000G00001FF", 19, 4);
+        refused_everywhere(":01000000GG", 19, 9);
+        refused_everywhere(":0000000000G", 19, 11);
+        refused_everywhere(":0000000000FFG0", 19, 13);
+        refused_everywhere(":G", 19, 1);
+    }
+
+    #[test]
+    fn a_cr_without_an_lf_is_a_bad_character() {
+        // In the middle of a line, and where another record follows it.
+        assert_eq!(refusal(":0000\r0001FF\n"), (19, 5));
+        assert_eq!(refusal("\r:00000001FF\n"), (19, 0));
+        assert_eq!(refusal(":\r00000001FF\n"), (19, 1));
+        assert_eq!(refusal(":0000000000\r:00000001FF\n"), (19, 11));
+        assert_eq!(refusal(":0000000000\n:0000000000\r:00000001FF"), (19, 23));
+        // As the text's last byte.
+        assert_eq!(refusal("\r"), (19, 0));
+        assert_eq!(refusal(":\r"), (19, 1));
+        assert_eq!(refusal(":00000001FF\r"), (19, 11));
+        assert_eq!(refusal(":0000000000\n\r"), (19, 12));
+        assert_eq!(refusal(":0000000000\r\n:00000001FF\r"), (19, 24));
+        // Of several CRs before an LF only the last belongs to the line's end.
+        assert_eq!(refusal("\r\r\n"), (19, 0));
+        assert_eq!(refusal("\r\r"), (19, 0));
+        assert_eq!(refusal(":00000001FF\r\r\n"), (19, 11));
+        assert_eq!(refusal(":00000001FF\r\r\r\n"), (19, 11));
+        assert_eq!(refusal(":0000000000\r\r\n:00000001FF\r\n"), (19, 11));
+        assert_eq!(refusal(":0000000000\n\r\r\n"), (19, 12));
+    }
+
+    #[test]
+    fn an_empty_line_has_no_character() {
+        assert_eq!(refusal("\n"), (20, 0));
+        assert_eq!(refusal("\r\n"), (20, 0));
+        assert_eq!(refusal("\n\r"), (20, 0));
+        assert_eq!(refusal(":0000000000\n\n"), (20, 12));
+        assert_eq!(refusal(":0000000000\r\n\r\n:00000001FF"), (20, 13));
     }
 
     #[test]
     fn line_ends() {
         assert_eq!(count(":00000001FF"), 0);
         assert_eq!(count(":00000001FF\r\n"), 0);
-        assert_eq!(refusal(":00000001FF\r"), (7, 0));
-        assert_eq!(refusal(":00000001FF\r\r\n"), (7, 0));
         assert_eq!(refusal(":00000001FF\n\n"), (12, 12));
         assert_eq!(refusal(":00000001FF\r\n\n"), (12, 13));
         assert_eq!(refusal(":00000001FF\n\r\n"), (12, 12));
+        assert_eq!(refusal(":00000001FF\n\r"), (12, 12));
         assert_eq!(refusal(":00000001FF\nx"), (12, 12));
         assert_eq!(refusal(format!("{END}{END}")), (12, 12));
-        assert_eq!(refusal(":0000000000\r\n\r\n:00000001FF"), (7, 13));
     }
 
     #[test]
@@ -352,17 +479,42 @@ mod tests {
 
     #[test]
     fn the_first_faulty_record_decides() {
-        assert_eq!(refusal(":00000000FF\nnonsense"), (8, 0));
-        assert_eq!(refusal("nonsense\n:00000000FF"), (7, 0));
+        // A wrong sum, another type, an address too far and a byte given twice, each before a bad character and a bad shape.
+        let given = good(0, 0, &[1]) + "\n";
+        for (line, number) in [
+            (":00000000FF".to_string(), 8),
+            (good(0, 4, &[]), 9),
+            (good(8193, 0, &[]), 10),
+            (good(0, 0, &[1]), 11),
+            (":".to_string(), 20),
+        ] {
+            for later in ["nonsense", ":0000000G00", ":000", "\n", "\r", ":0000000001"] {
+                let text = format!("{given}{line}\n{later}\n{END}");
+                assert_eq!(refusal(&text), (number, given.len() as u32), "{text:?}");
+                // The other way round the line after it is not looked at.
+                let text = format!("{given}xyz\n{line}\n");
+                assert_eq!(refusal(&text), (19, given.len() as u32), "{text:?}");
+                let text = format!("{given}\n{line}\n");
+                assert_eq!(refusal(&text), (20, given.len() as u32), "{text:?}");
+            }
+        }
         assert_eq!(refusal(":0000000000\n:0000000001\nx\n"), (8, 12));
-        // Faults of one record in the table's order: the sum before the type, the shape before both.
+    }
+
+    #[test]
+    fn the_faults_of_one_record_in_the_tables_order() {
+        // The sum before the type, the shape before both, the character before all.
         assert_eq!(refusal(":0000000500"), (8, 0));
-        assert_eq!(refusal(":0100000500"), (7, 0));
+        assert_eq!(refusal(":0100000500"), (20, 0));
+        assert_eq!(refusal(":010000050G"), (19, 10));
+        assert_eq!(refusal(":002001050G"), (19, 10));
     }
 
     #[test]
     fn after_the_end_record_nothing_is_judged() {
         assert_eq!(refusal(format!("{END}nonsense")), (12, 12));
+        assert_eq!(refusal(format!("{END}:0G\n")), (12, 12));
+        assert_eq!(refusal(format!("{END}:\n")), (12, 12));
         assert_eq!(refusal(format!("{END}:00000000FF\n")), (12, 12));
     }
 

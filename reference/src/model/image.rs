@@ -6,6 +6,8 @@ pub const CELLS: usize = 62;
 pub const ROWS: usize = 18;
 pub const COLUMNS: usize = 12;
 pub const FONT_ROWS: usize = CELLS * ROWS;
+/// The largest row: all twelve dots lit.
+const MOST_ROW: u16 = 4095;
 pub const IMAGE_BYTES: usize = 8192;
 
 /// Where the high halves of the rows begin.
@@ -39,9 +41,15 @@ fn use_of(address: usize) -> Use {
     }
 }
 
-/// Whether this is a font that a painter or the writer takes.
-pub fn is_font(font: &[u16]) -> bool {
-    font.len() == FONT_ROWS && font.iter().all(|&row| row <= 4095)
+/// Whether this is a font that a painter or the writer takes: first its length, then its rows from the first on.
+pub fn judge_font(font: &[u16]) -> Result<(), Refusal> {
+    if font.len() != FONT_ROWS {
+        return Err(Refusal::plain(4));
+    }
+    match font.iter().position(|&row| row > MOST_ROW) {
+        Some(row) => Err(Refusal { number: 18, place: row as u32 }),
+        None => Ok(()),
+    }
 }
 
 /// Whether a row has its dot lit in a column; bit 11 is the leftmost.
@@ -114,6 +122,29 @@ mod tests {
             let mut again = vec![0xFFFF; FONT_ROWS];
             assert_eq!(to_font(&of_font(&font), &mut again), Ok(()));
             assert_eq!(again, font);
+        }
+    }
+
+    #[test]
+    fn the_first_row_too_large_is_named_by_its_index() {
+        let refused = |number, place| Err(Refusal { number, place });
+        let mut font = vec![MOST_ROW; FONT_ROWS];
+        assert_eq!(judge_font(&font), Ok(()));
+        for (row, value) in [(1115, 4096), (700, 65_535), (61, 32_768), (18, 4097), (0, 4096)] {
+            font[row] = value;
+            assert_eq!(judge_font(&font), refused(18, row as u32));
+        }
+        // Cell 3 has its row 7 there.
+        font = vec![0; FONT_ROWS];
+        font[3 * ROWS + 7] = 4096;
+        assert_eq!(judge_font(&font), refused(18, 61));
+    }
+
+    #[test]
+    fn a_fonts_length_comes_before_its_rows() {
+        for length in [0, 1, ROWS, FONT_ROWS - 1, FONT_ROWS + 1, 2 * FONT_ROWS] {
+            assert_eq!(judge_font(&vec![0; length]), Err(Refusal::plain(4)));
+            assert_eq!(judge_font(&vec![4096; length]), Err(Refusal::plain(4)));
         }
     }
 

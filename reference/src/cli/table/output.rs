@@ -46,8 +46,8 @@ fn places() -> Vec<Case> {
         font("a path", "./new").writes("new", SAMPLE_TEXT),
         font("a device", "/dev/null"),
         font("standard output by its path", "/dev/stdout").out(SAMPLE_TEXT),
-        font("a name of 200 characters", &"n".repeat(200)).writes(&"n".repeat(200), SAMPLE_TEXT),
-        font("a name of 255 characters", &"n".repeat(255)).writes(&"n".repeat(255), SAMPLE_TEXT),
+        font("a name of 200 characters", &"n".repeat(200)).writes("n".repeat(200), SAMPLE_TEXT),
+        font("a name of 255 characters", &"n".repeat(255)).writes("n".repeat(255), SAMPLE_TEXT),
     ]
 }
 

@@ -1,11 +1,16 @@
 //! The hex text and the character image.
 //!
-//! First a short text changed in every single place, then an image with a bit of each byte cleared in turn, then texts,
-//! fonts and images drawn at random. Numbers, places, counts and the whole rooms are compared.
+//! First a short text changed in every single place, then an image with a bit of each byte cleared in turn, texts made
+//! for the places of refusals, fonts with a row too large, then texts, fonts and images drawn at random. Numbers, places,
+//! counts and the whole rooms are compared.
 
+pub(crate) mod places;
+#[cfg(test)]
+mod planted;
 pub(crate) mod texts;
 
 use super::rooms::{judge, Rooms};
+use super::rows::{self, SPOILT_FONTS};
 use super::{run as drive, CaseResult, Difference, Part, Plan};
 use crate::model::hex::WRITTEN_TEXT;
 use crate::model::image::{self, FONT_ROWS, IMAGE_BYTES};
@@ -18,6 +23,11 @@ const CHANGED_SHORT: u64 =
 /// One bit of each byte: every call carries a whole image, so all of them would take too long.
 const IMAGE_BITS: u64 = IMAGE_BYTES as u64;
 const RANDOM: u64 = 180_000;
+
+/// Where the texts for places begin, then the fonts with rows too large, then what is drawn at random.
+const PLACES_FROM: u64 = CHANGED_SHORT + IMAGE_BITS;
+const ROWS_FROM: u64 = PLACES_FROM + places::TEXTS;
+const RANDOM_FROM: u64 = ROWS_FROM + SPOILT_FONTS;
 
 /// Bytes as they can be pasted between quotes.
 fn shown(bytes: &[u8]) -> String {
@@ -112,6 +122,14 @@ fn random_image_case(subject: &dyn Hex, random: &mut Random) -> CaseResult {
     Ok(1)
 }
 
+fn text_room(random: &mut Random) -> usize {
+    match random.below(4) {
+        0 => random.pick(&[0, 12, 22_528, 22_539, 22_539]),
+        1 => WRITTEN_TEXT + random.between(1, 60),
+        _ => WRITTEN_TEXT,
+    }
+}
+
 fn write_case(subject: &dyn Hex, random: &mut Random) -> CaseResult {
     let mut font = texts::random_font(random);
     match random.below(12) {
@@ -121,18 +139,30 @@ fn write_case(subject: &dyn Hex, random: &mut Random) -> CaseResult {
         1 => font.push(0),
         2 => font.clear(),
         3 | 4 => {
-            let place = random.pick(&[0, FONT_ROWS - 1, random.clone().below(FONT_ROWS)]);
-            font[place] = random.pick(&[4096, 4097, 0x8000, 0xFFFF]);
+            let number = random.number() % SPOILT_FONTS;
+            rows::spoil(&mut font, number, random);
         }
         _ => {}
     }
-    let room = match random.below(4) {
-        0 => random.pick(&[0, 12, 22_528, 22_539, 22_539]),
-        1 => WRITTEN_TEXT + random.between(1, 60),
-        _ => WRITTEN_TEXT,
-    };
+    let room = text_room(random);
     compare_write(subject, &font, room, random)?;
     Ok(1)
+}
+
+/// A font with rows too large, as long as a font is and not.
+fn rows_case(subject: &dyn Hex, number: u64, random: &mut Random) -> CaseResult {
+    let mut font = texts::random_font(random);
+    rows::spoil(&mut font, number, random);
+    // No byte of the room is due, so most have few.
+    let room = if random.one_in(8) { text_room(random) } else { random.below(20) };
+    compare_write(subject, &font, room, random)?;
+    match random.below(4) {
+        0 => font.truncate(FONT_ROWS - 1),
+        1 => font.truncate(random.below(FONT_ROWS)),
+        _ => font.extend([0, 4096, u16::MAX, 4095].iter().take(random.between(1, 4))),
+    }
+    compare_write(subject, &font, room, random)?;
+    Ok(2)
 }
 
 fn random_case(subject: &dyn Hex, random: &mut Random) -> CaseResult {
@@ -150,35 +180,42 @@ fn random_case(subject: &dyn Hex, random: &mut Random) -> CaseResult {
 
 pub fn run(subject: &dyn Hex, plan: &Plan, say: &mut dyn FnMut(String)) -> Result<u64, Difference> {
     let base = image::of_font(&texts::random_font(&mut Random::new(1)));
+    if plan.count.is_none() {
+        for sort in places::SORTS {
+            say(format!("compare hex: {} {}", sort.count, sort.what));
+        }
+        say(format!("compare hex: {SPOILT_FONTS} fonts with rows too large"));
+    }
     let part = Part {
         name: "hex",
-        what: "a short text changed everywhere, an image with a bit of each byte cleared, then random texts and fonts",
-        cases: CHANGED_SHORT + IMAGE_BITS + RANDOM,
-        case: &|index, random| {
-            if index < CHANGED_SHORT {
+        what: "a short text changed everywhere, images with a bit cleared, texts and fonts for places, then random",
+        cases: RANDOM_FROM + RANDOM,
+        case: &|index, random| match index {
+            0..CHANGED_SHORT => {
                 let text = texts::changed_short(index).expect("the count covers every change");
                 text_case(subject, &text, random)
-            } else if index < CHANGED_SHORT + IMAGE_BITS {
-                bit_case(subject, &base, index - CHANGED_SHORT, random)
-            } else {
-                random_case(subject, random)
             }
+            CHANGED_SHORT..PLACES_FROM => bit_case(subject, &base, index - CHANGED_SHORT, random),
+            PLACES_FROM..ROWS_FROM => {
+                let text = places::text(index - PLACES_FROM, random);
+                text_case(subject, &text, random)
+            }
+            ROWS_FROM..RANDOM_FROM => rows_case(subject, index - ROWS_FROM, random),
+            _ => random_case(subject, random),
         },
     };
     drive(&part, plan, say)
 }
 
 #[cfg(test)]
-mod tests {
+pub(crate) mod tests {
     use super::*;
     use crate::compare::testing::silent;
     use crate::fast::Fast;
     use std::cell::RefCell;
     use std::collections::BTreeMap;
 
-    const RANDOM_FROM: u64 = CHANGED_SHORT + IMAGE_BITS;
-
-    fn some(subject: &dyn Hex, from: u64, count: u64) -> Result<u64, Difference> {
+    pub fn some(subject: &dyn Hex, from: u64, count: u64) -> Result<u64, Difference> {
         run(subject, &Plan { from, count: Some(count), ..Plan::default() }, &mut silent)
     }
 
@@ -194,6 +231,8 @@ mod tests {
         assert!(some(&Fast, RANDOM_FROM, 3000).unwrap() > 3000);
         assert!(some(&Fast, 0, 2000).unwrap() >= 2000);
         assert!(some(&Fast, CHANGED_SHORT - 1000, 1000).unwrap() >= 1000);
+        assert_eq!(some(&Fast, ROWS_FROM, 3000).unwrap(), 6000);
+        assert!(some(&Fast, PLACES_FROM, places::TEXTS).unwrap() >= places::TEXTS);
     }
 
     /// Counts what the cases come to.
@@ -233,12 +272,12 @@ mod tests {
         let notes = Notes::default();
         some(&notes, RANDOM_FROM, 8000).unwrap();
         let reads = notes.reads.into_inner();
-        for number in [0, 6, 7, 8, 9, 10, 11, 12] {
+        for number in [0, 6, 8, 9, 10, 11, 12, 19, 20] {
             assert!(reads.get(&number).is_some_and(|&times| times >= 20), "{number} of {reads:?}");
         }
-        assert!(reads[&0] > 2000, "{reads:?}");
+        assert!(reads[&0] > 2000 && reads[&7] >= 3, "{reads:?}");
         let writes = notes.writes.into_inner();
-        assert!([0, 4, 6].iter().all(|number| writes.contains_key(number)), "{writes:?}");
+        assert!([0, 4, 6, 18].iter().all(|number| writes.contains_key(number)), "{writes:?}");
         let fonts = notes.fonts.into_inner();
         assert!([0, 13].iter().all(|number| fonts[number] > 100), "{fonts:?}");
         let longest = notes.longest.into_inner();
@@ -309,7 +348,7 @@ mod tests {
             ("a CR at the very end passed over", |text, image| {
                 let answer = Fast.read(text, image);
                 let cut = text.strip_suffix(b"\r");
-                if answer.number == 7 {
+                if answer.number == 19 {
                     cut.map_or(answer, |cut| Fast.read(cut, image))
                 } else {
                     answer

@@ -203,7 +203,7 @@ fn long(random: &mut Random) -> Vec<u8> {
 }
 
 /// Texts at and around the longest length, good or not in other ways.
-fn longest(random: &mut Random) -> Vec<u8> {
+pub fn longest(random: &mut Random) -> Vec<u8> {
     let length = random.pick(&[65_534, 65_535, 65_535, 65_536, 65_537]);
     let end = end_record();
     let mut text = match random.below(4) {

@@ -664,6 +664,13 @@ mod tests {
                 _ => answer,
             }
         }),
+        ("a row that is too large told as a painter does", |glyphs, font, cells| {
+            let answer = Fast.pack(glyphs, font, cells);
+            match glyphs.iter().position(|&row| row > 4095) {
+                Some(place) if answer.number == 16 => Answer::refused(18, place as u32),
+                _ => answer,
+            }
+        }),
         ("6 before 17", |glyphs, font, cells| {
             let answer = Fast.pack(glyphs, font, cells);
             if answer.number == 17 && (font.len() < FONT_ROWS || cells.len() < glyphs.len() / ROWS) {

@@ -1,9 +1,10 @@
-//! The painter: refusals alone and in pairs first, then lines of hand-made and random screens. Every third of these is in
-//! mode 1 and made for its shadow.
+//! The painter: refusals alone and in pairs first, and fonts with each row too large in turn; then lines of hand-made and
+//! random screens. Every third of these is in mode 1 and made for its shadow.
 
 mod shadows;
 
 use super::rooms::Rooms;
+use super::rows::{self, SPOILT_FONTS};
 use super::{run as drive, CaseResult, Difference, Part, Plan};
 use crate::model::display::{cells, Cell};
 use crate::model::image::{FONT_ROWS, ROWS};
@@ -15,6 +16,10 @@ const SCREENS: u64 = 75_000;
 /// The share of the screens that are made for the shadow.
 const ONE_FOR_THE_SHADOW_IN: u64 = 3;
 const LINES_A_SCREEN: usize = 8;
+
+/// Where the fonts with rows too large begin, and then the screens.
+const ROWS_FROM: u64 = (FAULTS.len() * FAULTS.len()) as u64;
+const SCREENS_FROM: u64 = ROWS_FROM + SPOILT_FONTS;
 
 /// Everything one call is given.
 #[derive(Clone, Debug)]
@@ -298,9 +303,14 @@ const FAULTS: &[fn(&mut Scene)] = &[
     },
     |scene| scene.font.push(0),
     |scene| scene.font.clear(),
+    |scene| scene.font.truncate(1098),
     |scene| spoil(&mut scene.font, 0, 4096),
+    |scene| spoil(&mut scene.font, 1, u16::MAX),
     |scene| spoil(&mut scene.font, 600, 0x8000),
+    |scene| spoil(&mut scene.font, 1115, 4096),
     |scene| spoil(&mut scene.font, 1115, u16::MAX),
+    |scene| spoil(&mut scene.font, 1116, 4096),
+    |scene| scene.font.fill(4096),
     |scene| scene.line = 1023,
     |scene| scene.line = 1024,
     |scene| scene.line = u32::MAX,
@@ -328,8 +338,8 @@ fn spoil(list: &mut [u16], place: usize, value: u16) {
     }
 }
 
-fn fault_case(subject: &dyn Paint, fonts: &[Vec<u16>], index: u64, random: &mut Random) -> CaseResult {
-    let (first, second) = (index as usize / FAULTS.len(), index as usize % FAULTS.len());
+/// A call that nothing speaks against.
+fn good_scene(fonts: &[Vec<u16>], random: &mut Random) -> Scene {
     let settings = settings(random);
     let words = words(random.number() % 8, random);
     let mut scene = Scene {
@@ -342,6 +352,12 @@ fn fault_case(subject: &dyn Paint, fonts: &[Vec<u16>], index: u64, random: &mut 
         room: 0,
     };
     scene.room = scene.width as usize + random.below(4);
+    scene
+}
+
+fn fault_case(subject: &dyn Paint, fonts: &[Vec<u16>], index: u64, random: &mut Random) -> CaseResult {
+    let (first, second) = (index as usize / FAULTS.len(), index as usize % FAULTS.len());
+    let mut scene = good_scene(fonts, random);
     FAULTS[first](&mut scene);
     FAULTS[second](&mut scene);
     scene.compare(subject, random)?;
@@ -351,18 +367,36 @@ fn fault_case(subject: &dyn Paint, fonts: &[Vec<u16>], index: u64, random: &mut 
     Ok(2)
 }
 
+/// A font with rows too large, alone, with another fault, and with two.
+fn rows_case(subject: &dyn Paint, fonts: &[Vec<u16>], number: u64, random: &mut Random) -> CaseResult {
+    let mut scene = good_scene(fonts, random);
+    rows::spoil(&mut scene.font, number, random);
+    scene.compare(subject, random)?;
+    for _ in 0..2 {
+        FAULTS[random.below(FAULTS.len())](&mut scene);
+        scene.compare(subject, random)?;
+    }
+    Ok(3)
+}
+
 pub fn run(subject: &dyn Paint, plan: &Plan, say: &mut dyn FnMut(String)) -> Result<u64, Difference> {
     let fonts = fonts();
-    let faults = (FAULTS.len() * FAULTS.len()) as u64;
+    if plan.count.is_none() {
+        say(format!("compare paint: {ROWS_FROM} pairs of faults"));
+        say(format!("compare paint: {SPOILT_FONTS} fonts with rows too large"));
+    }
     let part = Part {
         name: "paint",
         what: "refusals alone, in pairs and threes, then lines of made and random screens, a third for mode 1's shadow",
-        cases: faults + SCREENS,
+        cases: SCREENS_FROM + SCREENS,
         case: &|index, random| {
-            if index < faults {
+            if index < ROWS_FROM {
                 return fault_case(subject, &fonts, index, random);
             }
-            let screen = index - faults;
+            if index < SCREENS_FROM {
+                return rows_case(subject, &fonts, index - ROWS_FROM, random);
+            }
+            let screen = index - SCREENS_FROM;
             if screen % ONE_FOR_THE_SHADOW_IN == 0 {
                 shadows::screen_case(subject, screen / ONE_FOR_THE_SHADOW_IN, random)
             } else {
@@ -381,13 +415,18 @@ mod tests {
     use std::cell::RefCell;
     use std::collections::BTreeSet;
 
+    fn from(subject: &dyn Paint, from: u64, count: u64) -> Result<u64, Difference> {
+        run(subject, &Plan { from, count: Some(count), ..Plan::default() }, &mut silent)
+    }
+
+    /// All refusals, and some of the screens.
     fn some(subject: &dyn Paint) -> Result<u64, Difference> {
-        run(subject, &Plan { count: Some(4500), ..Plan::default() }, &mut silent)
+        Ok(from(subject, 0, SCREENS_FROM)? + from(subject, SCREENS_FROM, 2900)?)
     }
 
     #[test]
     fn the_fast_one_agrees_with_the_model() {
-        assert!(some(&Fast).unwrap() > 20_000);
+        assert_eq!(some(&Fast).unwrap(), 2 * ROWS_FROM + 3 * SPOILT_FONTS + 8 * 2900);
     }
 
     /// Notes what the cases reach.
@@ -418,7 +457,7 @@ mod tests {
     fn the_cases_reach_every_number_colour_and_size() {
         let notes = Notes::default();
         some(&notes).unwrap();
-        assert_eq!(notes.numbers.into_inner(), BTreeSet::from_iter(0..=6));
+        assert_eq!(notes.numbers.into_inner(), BTreeSet::from([0, 1, 2, 3, 4, 5, 6, 18]));
         assert_eq!(notes.dots.into_inner(), BTreeSet::from([0, 8, 9, 10, 11, 12, 13, 14, 15]));
         assert_eq!(notes.sizes.into_inner(), BTreeSet::from_iter(1..=4));
         let widths = notes.widths.into_inner();
@@ -495,6 +534,130 @@ mod tests {
         for (name, mistake) in mistakes {
             let difference = some(&Planted(*mistake)).expect_err(name);
             assert!(difference.report.contains("words [") && difference.report.contains("font ["));
+        }
+    }
+
+    /// What a painter answers for which only these rows are too large.
+    fn taken(order: &PaintOrder, dots: &mut [u8], too_large: fn(u16) -> bool) -> Answer {
+        match order.font.iter().position(|&row| too_large(row)) {
+            Some(row) => Answer::refused(18, row as u32),
+            None => {
+                let cut: Vec<u16> = order.font.iter().map(|row| row & 4095).collect();
+                Fast.paint(&PaintOrder { font: &cut, ..*order }, dots)
+            }
+        }
+    }
+
+    /// The first row too large.
+    fn bad_row(order: &PaintOrder) -> Option<u32> {
+        order.font.iter().position(|&row| row > 4095).map(|row| row as u32)
+    }
+
+    /// Tells another place where the right painter tells a row.
+    fn retold(answer: Answer, place: u32) -> Answer {
+        if answer.number == 18 {
+            Answer::refused(18, place)
+        } else {
+            answer
+        }
+    }
+
+    /// A painter that looks at the rows before it looks for the refusal of this number.
+    fn rows_before(number: u32, order: &PaintOrder, answer: Answer) -> Answer {
+        let row = bad_row(order).filter(|_| answer.number == number && order.font.len() == FONT_ROWS);
+        row.map_or(answer, |row| Answer::refused(18, row))
+    }
+
+    /// Mistakes about the rows of a font.
+    const ROW_MISTAKES: &[(&str, Damage)] = &[
+        ("the old number", |_, _, answer| if answer.number == 18 { Answer::refused(4, 0) } else { answer }),
+        ("18 for the length too", |_, _, answer| if answer.number == 4 { Answer::refused(18, 0) } else { answer }),
+        ("the length as the place", |order, _, answer| match answer.number {
+            4 => Answer::refused(4, order.font.len() as u32),
+            _ => answer,
+        }),
+        ("without the row", |_, _, answer| retold(answer, 0)),
+        ("counted from 1", |_, _, answer| retold(answer, answer.place + 1)),
+        ("the last row too large", |order, _, answer| {
+            retold(answer, order.font.iter().rposition(|&row| row > 4095).unwrap_or(0) as u32)
+        }),
+        ("the largest row", |order, _, answer| {
+            let largest = order.font.iter().max();
+            retold(answer, order.font.iter().position(|row| Some(row) == largest).unwrap_or(0) as u32)
+        }),
+        ("the cell", |_, _, answer| retold(answer, answer.place / 18)),
+        ("the row in the cell", |_, _, answer| retold(answer, answer.place % 18)),
+        ("the row's place in bytes", |_, _, answer| retold(answer, 2 * answer.place)),
+        ("8 bits of the row", |_, _, answer| retold(answer, answer.place % 256)),
+        ("18 before the length", |order, _, answer| match (answer.number, bad_row(order)) {
+            (4, Some(row)) => Answer::refused(18, row),
+            _ => answer,
+        }),
+        ("18 before 1", |order, _, answer| rows_before(1, order, answer)),
+        ("18 before 2", |order, _, answer| rows_before(2, order, answer)),
+        ("18 before 3", |order, _, answer| rows_before(3, order, answer)),
+        ("5 before 18", |order, _, answer| match answer.number {
+            18 if order.line > 1023 || order.width > 1024 => Answer::refused(5, 0),
+            _ => answer,
+        }),
+        ("5 before 4", |order, _, answer| match answer.number {
+            4 if order.line > 1023 || order.width > 1024 => Answer::refused(5, 0),
+            _ => answer,
+        }),
+        ("6 before 18", |order, dots, answer| match answer.number {
+            18 if order.line <= 1023 && order.width <= 1024 && dots.len() < order.width as usize => {
+                Answer::refused(6, 0)
+            }
+            _ => answer,
+        }),
+        ("4096 taken", |order, dots, answer| match answer.number {
+            18 => taken(order, dots, |row| row > 4096),
+            _ => answer,
+        }),
+        ("the sign taken for a small row", |order, dots, answer| match answer.number {
+            18 => taken(order, dots, |row| row as i16 > 4095),
+            _ => answer,
+        }),
+        ("only bit 12 looked at", |order, dots, answer| match answer.number {
+            18 => taken(order, dots, |row| row & 4096 != 0),
+            _ => answer,
+        }),
+        ("the last row not looked at", |order, dots, answer| match (answer.number, bad_row(order)) {
+            (18, Some(1115)) => taken(order, dots, |_| false),
+            _ => answer,
+        }),
+        ("not looked at when off", |order, dots, answer| match answer.number {
+            18 if !order.settings.on => taken(order, dots, |_| false),
+            _ => answer,
+        }),
+        ("not looked at for a width of 0", |order, dots, answer| match answer.number {
+            18 if order.width == 0 => taken(order, dots, |_| false),
+            _ => answer,
+        }),
+        ("only cells of the screen looked at", |order, dots, answer| {
+            let row = bad_row(order).unwrap_or(0) as usize;
+            let shown = order.words.iter().any(|&word| usize::from(word / 16) == row / 18);
+            match answer.number {
+                18 if !shown => taken(order, dots, |_| false),
+                _ => answer,
+            }
+        }),
+        ("a refusal that touches", |_, dots, answer| {
+            if answer.number == 18 && !dots.is_empty() {
+                dots[0] ^= 1;
+            }
+            answer
+        }),
+    ];
+
+    #[test]
+    fn every_planted_mistake_about_rows_is_found() {
+        for (name, mistake) in ROW_MISTAKES {
+            from(&Planted(*mistake), ROWS_FROM, SPOILT_FONTS).expect_err(name);
+            // Those about the order are found among the pairs as well.
+            if name.contains("before") {
+                from(&Planted(*mistake), 0, ROWS_FROM).expect_err(name);
+            }
         }
     }
 

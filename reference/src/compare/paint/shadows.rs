@@ -191,7 +191,7 @@ pub fn screen_case(subject: &dyn Paint, index: u64, random: &mut Random) -> Case
 #[cfg(test)]
 mod tests {
     use super::*;
-    use crate::compare::paint::{run, ONE_FOR_THE_SHADOW_IN, SCREENS};
+    use crate::compare::paint::{run, ONE_FOR_THE_SHADOW_IN, SCREENS, SCREENS_FROM};
     use crate::compare::testing::silent;
     use crate::compare::{Difference, Plan};
     use crate::fast::Fast;
@@ -203,7 +203,7 @@ mod tests {
     use std::collections::BTreeSet;
 
     fn some(subject: &dyn Paint) -> Result<u64, Difference> {
-        run(subject, &Plan { count: Some(4500), ..Plan::default() }, &mut silent)
+        run(subject, &Plan { from: SCREENS_FROM, count: Some(2900), ..Plan::default() }, &mut silent)
     }
 
     /// A line with the cells of its screen, for painters that go by rows and columns.
