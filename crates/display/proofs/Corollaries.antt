@@ -26,7 +26,7 @@ use Rattle.display.specs.declared.Pen.{Pen}
 use Rattle.judging.specs.declared.Settings.{Settings}
 use Rattle.display.specs.declared.Kind.{Kind}
 use Rattle.display.specs.declared.Kind.the-variants.{Character, Space, Return, End}
-use Rattle.display.specs.Cells.{Shown, character, space, Cell, kindCell, rightOf, belowRow, rowPen, afterWord, goesOn, cellsFrom}
+use Rattle.display.specs.Cells.{Shown, character, space, Cell, kindCell, rowPen, afterWord, goesOn, cellsFrom}
 use Rattle.display.specs.Picture.{Drawn, steadyOr, rowIn, columnIn, has, shadowOf, throws, shownDot, cellDot, shadedDot, dotAt}
 use Rattle.display.specs.Painting.{firstDot, firstLine, viewOf, screenOf, dotOf, lineOf}
 use Rattle.display.proofs.Join.{none-from}

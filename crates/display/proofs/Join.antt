@@ -7,7 +7,7 @@ use mathlib.Core.Logic.{⊎-elim}
 use mathlib.Core.List.{List, [], _∷_, _++_}
 use Prim.Native.Nat.{ℕ, _+_, _≤_}
 use native.Mathlib.Omega.{arith}
-use Rattle.laws.specs.Pick.{pick, either}
+use Rattle.laws.specs.Pick.{pick}
 use Rattle.laws.specs.Lines.{anyOf, holders}
 use Rattle.laws.specs.Placing.{cellHas}
 use Rattle.laws.proofs.Holders.{holders-of-none}
@@ -19,7 +19,7 @@ use Rattle.display.specs.declared.View.{View}
 use Rattle.display.specs.declared.Pen.{Pen}
 use Rattle.display.specs.Cells.{Shown, Cell, character, space, kindCell, rightOf, belowRow, rowPen, afterWord, goesOn, cellsFrom}
 use Rattle.display.specs.Picture.{Drawn, has, throws}
-use Rattle.display.proofs.Shadow.{Reached, throws-not}
+use Rattle.display.proofs.Shadow.{throws-not}
 
 -- a test that no cell passes from a pen on, by what is true of that pen and stays true of those after it
 module _ (left : Dots) (test : Cell → Bool) (Is : Pen → Type 0) (none : (p : Pen) (back : ℕ) (shows : Shown) → Is p → test (record { left = p .x; top = p .y; size = p .size; background = back; shows = shows }) ≡ false)

@@ -5,15 +5,14 @@ use mathlib.Core.Path.{_≡_, refl, sym, ap, _∙_}
 use mathlib.Core.Bool.{Bool, true, false, false≢true}
 use mathlib.Core.Logic.{⊎-elim}
 use mathlib.Core.List.{List}
-use Prim.Native.Nat.{ℕ, _+_, _-_, _*_, _/_, _^_, _<_, _≤_}
+use Prim.Native.Nat.{ℕ, _+_, _-_, _*_, _^_, _<_, _≤_}
 use native.Mathlib.Omega.{arith}
 use native.Mathlib.Nat.{zero-div}
 use borrow.Author.Tests.{eq-eqb, ne-eqb, eqb-true, lt-ltb, le-ltb}
 use lib.Dec.{eqb, ltb}
-use lib.ListN.{getD}
-use Rattle.laws.specs.Pick.{pick, both, either}
+use Rattle.laws.specs.Pick.{pick, both}
 use Rattle.laws.specs.Placing.{spanHas}
-use Rattle.laws.proofs.Both.{both-parts, none-left, none-right, both-none, fails-unless}
+use Rattle.laws.proofs.Both.{both-parts, none-left, none-right, fails-unless}
 use Rattle.laws.proofs.Placing.{span-in, span-before, span-has, share-in}
 use Rattle.laws.proofs.Scan.{split}
 use Rattle.font.specs.Font.{cellRows, cellColumns, rowOf, bitSet, fontDot}

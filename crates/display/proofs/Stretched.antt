@@ -3,7 +3,7 @@
 use mathlib.Core.Path.{_≡_, refl, sym, ap, _∙_}
 use mathlib.Core.Bool.{Bool, true, false}
 use mathlib.Core.List.{List}
-use Prim.Native.Nat.{ℕ, _+_, _-_, _*_, _/_, _%_, _<_, _≤_}
+use Prim.Native.Nat.{ℕ, _-_, _*_, _/_, _%_, _<_, _≤_}
 use native.Mathlib.Omega.{arith}
 use borrow.Author.Tests.{eqb-true}
 use lib.Dec.{eqb}
@@ -20,8 +20,8 @@ use Rattle.stretch.specs.Stretch.{shadeSet, columnByte, stretched}
 use Rattle.units.specs.declared.Dots.{Dots}
 use Rattle.display.specs.declared.View.{View}
 use Rattle.display.specs.declared.Pen.{Pen}
-use Rattle.display.specs.Cells.{Cell, character, space}
-use Rattle.display.specs.Picture.{Drawn, has, litAt, shadowOf, throws, shownDot, cellDot}
+use Rattle.display.specs.Cells.{character, space}
+use Rattle.display.specs.Picture.{litAt, shadowOf, shownDot}
 use Rattle.display.specs.Steps.{onFirst, blankRow, rowShown, inkOf, drawnDot, Cut}
 use Rattle.display.proofs.Shadow.{no-bits, shown-bit, shade-at, ground-plain}
 

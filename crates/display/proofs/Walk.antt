@@ -4,15 +4,15 @@
 use mathlib.Core.Path.{_≡_, refl, sym, ap, _∙_}
 use mathlib.Core.Bool.{Bool, true, false, true≢false}
 use mathlib.Core.Logic.{⊎-elim}
-use mathlib.Core.List.{List, [], _∷_, _++_}
+use mathlib.Core.List.{List, [], _∷_}
 use Prim.Native.Nat.{ℕ, _+_, _-_, _*_, _/_, _<_, _≤_}
 use native.Mathlib.Omega.{arith}
 use borrow.Author.Tests.{eqb-true, eq-eqb}
 use lib.Dec.{eqb}
 use Rattle.laws.specs.Pick.{pick, both, either}
 use Rattle.laws.specs.Lines.{firstShown, anyOf}
-use Rattle.laws.specs.Placing.{spanHas, cellHas}
-use Rattle.laws.proofs.Both.{none-left, none-right, both-none, either-none, fails-unless}
+use Rattle.laws.specs.Placing.{spanHas}
+use Rattle.laws.proofs.Both.{none-right, both-none, either-none, fails-unless}
 use Rattle.laws.proofs.Holders.{first-of-none, first-alike-shown}
 use Rattle.laws.proofs.Placing.{span-in, span-has, span-before, cell-above, cell-in-row, past-cell, part-at}
 use Rattle.laws.proofs.Scan.{split}
@@ -23,7 +23,7 @@ use Rattle.display.specs.declared.Kind.the-variants.{Character, Space, R
 use Rattle.stretch.specs.Stretch.{shadeSet}
 use Rattle.display.specs.declared.View.{View}
 use Rattle.display.specs.declared.Pen.{Pen}
-use Rattle.display.specs.Cells.{Cell, character, space, kindCell, rightOf, rowPen, afterWord, goesOn, cellsFrom}
+use Rattle.display.specs.Cells.{Cell, character, kindCell, rightOf, afterWord, cellsFrom}
 use Rattle.display.specs.Picture.{Drawn, has, throws, shadowOf, cellDot}
 use Rattle.display.specs.Steps.{fallen, paintedIn, painted, onFirst, aboveRow, endOf, drawnDot, Cut}
 use Rattle.display.proofs.Join.{PenPast, none-has, none-throws}

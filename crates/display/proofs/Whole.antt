@@ -2,7 +2,7 @@
 -- Assumes nothing.
 use mathlib.Core.Path.{_≡_, sym, ap, _∙_}
 use mathlib.Core.Bool.{Bool, true, false}
-use mathlib.Core.List.{List, [], _∷_, _++_}
+use mathlib.Core.List.{List, _++_}
 use Prim.Native.Nat.{ℕ, _%_, _≤_}
 use native.Mathlib.Omega.{arith}
 use types.Run.{OneOf}
@@ -29,7 +29,7 @@ use Rattle.display.specs.declared.View.{View}
 use Rattle.display.specs.Words.{kindsOf}
 use Rattle.display.specs.Cells.{Cell}
 use Rattle.display.specs.Picture.{Drawn, has, throws, cellDot, dotAt}
-use Rattle.display.specs.Painting.{firstDot, firstLine, screenOf, viewOf, dotOf, lineOf, leftBy}
+use Rattle.display.specs.Painting.{firstDot, screenOf, viewOf, dotOf, lineOf, leftBy}
 use Rattle.display.specs.Steps.{painted, Usable}
 use Rattle.display.proofs.Shadow.{fallen-ground}
 

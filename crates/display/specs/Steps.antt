@@ -12,7 +12,6 @@ use Rattle.laws.specs.Lines.{firstShown, anyOf}
 use Rattle.laws.specs.Placing.{spanHas}
 use Rattle.font.specs.Font.{fontCells, fontRows, cellRows, cellColumns, rowOf, bitSet}
 use Rattle.units.specs.declared.Dots.{Dots}
-use Rattle.units.specs.declared.Lines.{Lines}
 use Rattle.modes.specs.Modes.{inColour, black, groundByte}
 use Rattle.judging.specs.declared.Settings.{Settings}
 use Rattle.judging.specs.Judging.{wordCount, mostColour, mostPlace, mostFrequency}

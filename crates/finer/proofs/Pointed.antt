@@ -13,7 +13,7 @@ use borrow.Author.Tests.{ltb-true, not-true, not-false, eqb-true}
 use lib.Dec.{eqb, ltb}
 use lib.ListN.{length, getD, take, drop, length-map}
 use lib.Seq.{getD-take, getD-drop, drop-drop}
-use Rattle.laws.specs.Pick.{pick, both}
+use Rattle.laws.specs.Pick.{pick}
 use Rattle.laws.specs.Said.{Said, accepted, refused}
 use Rattle.laws.specs.Sums.{sumAll}
 use Rattle.laws.proofs.Both.{fails-unless}

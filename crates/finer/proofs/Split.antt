@@ -1,11 +1,11 @@
 -- Painting and writing: the two tests of a font are document 01's one, and the first row above 4095 is where the second fails.
 -- Assumes nothing.
-use Prim.Native.Nat.{ℕ, suc, _<_, _≤_}
+use Prim.Native.Nat.{ℕ, _<_}
 use mathlib.Core.Path.{_≡_, refl, sym, _∙_, ap, subst}
 use mathlib.Core.Bool.{Bool, true, false, not}
 use mathlib.Core.List.{List, _++_}
 use native.Mathlib.Omega.{arith}
-use borrow.Author.Tests.{eq-eqb, ltb-true, ltb-false, eqb-true, eqb-false, not-true, not-false}
+use borrow.Author.Tests.{ltb-true, ltb-false, eqb-true, eqb-false}
 use lib.Dec.{eqb, ltb}
 use lib.ListN.{length, getD, drop}
 use Rattle.laws.specs.Pick.{pick, both}
@@ -15,16 +15,13 @@ use Rattle.laws.proofs.Lists.{first-most, first-at, first-before}
 use Rattle.laws.proofs.Said.{number-of}
 use Rattle.laws.proofs.Scan.{within-first}
 use Rattle.font.specs.Font.{fontRows, mostRow, isFont, fontDot}
-use Rattle.units.specs.declared.Dots.{Dots}
-use Rattle.units.specs.declared.Lines.{Lines}
-use Rattle.judging.specs.declared.Settings.{Settings}
 use Rattle.judging.specs.Judging.{inRange, mostRatio, areWords, onScreen, answerOf as painting}
 use Rattle.display.specs.Words.{kindsOf}
 use Rattle.display.specs.Painting.{lineOf, leftBy}
 use Rattle.image.specs.Image.{imageOf}
 use Rattle.writer.specs.Text.{textOf, textBytes}
 use Rattle.writer.specs.Writing.{answerOf as writing, leftOf as writeLeft}
-use Rattle.finer.specs.Document01.{paintBy01, paintLeft01, writeBy01, writeLeft01}
+use Rattle.finer.specs.Document01.{paintBy01, writeBy01}
 use Rattle.finer.specs.Claims.{coarser, RefusedAlike, AcceptedAlike, PaintAsBefore, PaintLeavesAsBefore, WriteAsBefore, WriteLeavesAsBefore, IsFirstWide, PaintPoints, WritePoints}
 
 pub refused-alike : RefusedAlike

@@ -6,24 +6,24 @@ use mathlib.Core.Path.{_≡_, refl, sym, _∙_, ap}
 use mathlib.Core.Bool.{Bool, true, false, not, false≢true}
 use mathlib.Core.List.{List, [], _∷_, _++_, map}
 use native.Mathlib.Omega.{arith}
-use borrow.Author.Tests.{eq-eqb, ne-eqb, lt-ltb, ltb-true, ltb-false, eqb-true, eqb-false}
+use borrow.Author.Tests.{eq-eqb, ne-eqb, lt-ltb, ltb-true, eqb-true}
 use lib.Dec.{eqb, ltb}
 use lib.ListN.{length, getD, take, drop, length-drop, List·getD-map}
 use lib.Seq.{getD-drop}
-use Rattle.laws.specs.Pick.{pick, both}
+use Rattle.laws.specs.Pick.{pick}
 use Rattle.laws.specs.Said.{Said, accepted, refused}
-use Rattle.laws.specs.Lists.{tabulate, firstOf, upto}
+use Rattle.laws.specs.Lists.{tabulate, upto}
 use Rattle.laws.proofs.Both.{both-parts, same-tests}
 use Rattle.laws.proofs.Lists.{first-same}
 use Rattle.laws.proofs.Tests.{upto-at, upto-all}
 use Rattle.image.specs.Image.{imageBytes, unused}
-use Rattle.hex.specs.Digits.{digit, isDigit, byteAt, bytesFrom}
+use Rattle.hex.specs.Digits.{isDigit, byteAt}
 use Rattle.hex.specs.Lines.{lines, bodyOf, placeOf}
 use Rattle.hex.specs.Records.{belongs, firstBad, hasBad, isShaped, spelledBy, recordOf, records, isEnd, byteIn, countOf, faultOf, sumOf, typeOf, addressOf, lengthOf, freshIn}
-use Rattle.hex.specs.Reading.{mostText, nth, faultAt, stopsAt, stopOf, faultSaid, judged, verdict, answerOf, leftOf}
+use Rattle.hex.specs.Reading.{mostText, nth, faultAt, stopOf, faultSaid, judged, verdict, answerOf, leftOf}
 use Rattle.hex.proofs.Passed.{record-nil}
 use Rattle.hex.proofs.Shape.{colon-first, digit-later, first-colon, later-digit, none-bad, each-belongs, Fits, shaped-fits, fits-shaped}
-use Rattle.finer.specs.Document01.{isShaped01, recordBy01, recordsBy01, faultBy01, stopBy01, judgedBy01, readBy01, readLeft01}
+use Rattle.finer.specs.Document01.{isShaped01, recordBy01, faultBy01, stopBy01, judgedBy01, readBy01}
 use Rattle.finer.specs.Claims.{coarser, ReadAsBefore, ReadLeavesAsBefore}
 use Rattle.finer.proofs.Split.{refused-alike}
 

@@ -1,12 +1,12 @@
 -- The search for a line's first bad character: k characters of the line that starts at a place are passed, none of them bad and no end before
 -- any of them. What stands behind them then decides: an end, and the line has no bad character, or one that does not belong there.
 -- Assumes nothing.
-use mathlib.Core.Path.{_≡_, sym, _∙_, ap}
+use mathlib.Core.Path.{_≡_, _∙_, ap}
 use mathlib.Core.Bool.{true, false, not}
 use mathlib.Core.List.{List}
 use Prim.Native.Nat.{ℕ, _+_, _<_, _≤_}
 use native.Mathlib.Omega.{arith}
-use lib.ListN.{length, getD, take, drop}
+use lib.ListN.{length, getD, drop}
 use lib.Seq.{getD-take, getD-drop, drop-drop}
 use borrow.Author.Count.{below-more}
 use borrow.Author.Tests.{lt-ltb}

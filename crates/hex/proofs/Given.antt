@@ -7,14 +7,13 @@ use mathlib.Core.List.{List, [], _∷_, _++_, map}
 use Prim.Native.Nat.{ℕ, _+_, _-_, _*_, _<_}
 use native.Mathlib.Decide.{decLt}
 use native.Mathlib.Omega.{arith}
-use lib.Dec.{eqb, ltb}
-use lib.ListN.{length, getD, take, drop, length-drop, List·getD-eq-default}
-use lib.Seq.{getD-drop, getD-take}
-use borrow.Author.Tests.{lt-ltb, eqb-true}
+use lib.Dec.{ltb}
+use lib.ListN.{length, getD, take, List·getD-eq-default}
+use lib.Seq.{getD-take}
+use borrow.Author.Tests.{lt-ltb}
 use Rattle.laws.specs.Pick.{pick}
 use Rattle.laws.specs.Lists.{tabulate}
 use Rattle.laws.specs.Placing.{spanHas, patched}
-use Rattle.laws.proofs.Both.{both-parts}
 use Rattle.laws.proofs.Lists.{getD-tabulate, length-tabulate, tabulate-same}
 use Rattle.laws.proofs.Placing.{span-has}
 use Rattle.hex.specs.Digits.{digit, byteAt, bytesFrom}

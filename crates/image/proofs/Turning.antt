@@ -16,7 +16,6 @@ use Rattle.laws.specs.Said.{Said, accepted, refused}
 use Rattle.font.specs.Font.{isFont, rowOf}
 use Rattle.image.specs.Image.{imageOf, fontOf, halfAt, dueAt, rowIn, lowAt, cellAt, rowAt, hasRow, leastAt, lacksAt, firstLack, answerOf}
 use Rattle.font.proofs.Each.{within-at, within-each, font-tests}
-use Rattle.laws.proofs.Both.{both-parts}
 use Rattle.laws.proofs.Lists.{length-tabulate, getD-tabulate, is-tabulate, first-none, first-before}
 
 -- a font's rows

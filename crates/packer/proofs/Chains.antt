@@ -14,7 +14,7 @@ use lib.Dec.{eqb}
 use lib.ListN.{length, getD, set, length-set}
 use lib.Seq.{getD-set-same, getD-set-other}
 use Rattle.laws.specs.Pick.{pick}
-use Rattle.packer.specs.Steps.{sameRows, spots, spotAt, lastOf, firstRow, lastAt, nextOf, Walk, Found}
+use Rattle.packer.specs.Steps.{sameRows, spots, spotAt, lastOf, firstRow, lastAt, Walk, Found}
 use Rattle.packer.proofs.Words.{spot-same}
 
 module _ (test : ℕ → Bool) where

@@ -1,6 +1,6 @@
 -- Two glyphs are of one pattern exactly if their dots agree, and, if none of their rows is above 4095, exactly if their rows do: twelve bits make a row.
 -- Assumes nothing.
-use Prim.Native.Nat.{ℕ, zero, suc, _+_, _-_, _*_, _/_, _%_, _^_, _<_, _≤_}
+use Prim.Native.Nat.{ℕ, zero, suc, _-_, _/_, _%_, _^_, _<_, _≤_}
 use mathlib.Core.Path.{_≡_, refl, sym, _∙_, ap}
 use mathlib.Core.Bool.{Bool, true, false, Bool·beq as agree, false≢true, true≢false}
 use mathlib.Core.List.{List}

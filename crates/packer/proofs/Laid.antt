@@ -1,7 +1,7 @@
 -- The font laid cell by cell: the rows of each pattern's first glyph, then 0.
 -- Assumes nothing.
 use Prim.Native.Nat.{ℕ, _+_, _-_, _*_, _/_, _%_, _<_, _≤_}
-use mathlib.Core.Path.{_≡_, refl, sym, _∙_, ap}
+use mathlib.Core.Path.{_≡_, sym, _∙_, ap}
 use mathlib.Core.Bool.{true, false}
 use mathlib.Core.List.{List}
 use native.Mathlib.Decide.{decLt}
@@ -10,7 +10,7 @@ use borrow.Author.Tests.{lt-ltb, le-ltb}
 use lib.Dec.{ltb}
 use lib.ListN.{length, getD}
 use Rattle.laws.proofs.Lists.{Filled}
-use Rattle.font.specs.Font.{fontCells, cellRows, rowOf}
+use Rattle.font.specs.Font.{cellRows, rowOf}
 use Rattle.packer.specs.Glyphs.{glyphsIn, firstIn, patternsIn, packedRow}
 use Rattle.packer.specs.Steps.{ToLay, Copied, Cleared}
 use Rattle.packer.proofs.Asked.{taken}

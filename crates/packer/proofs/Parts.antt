@@ -1,17 +1,16 @@
 -- The bits of several rows together. In numbers of four parts the parts' bits come together part by part, and they are at most 4095 exactly if each row's are.
 -- Assumes nothing.
-use Prim.Native.Nat.{ℕ, _+_, _-_, _*_, _/_, _%_, _^_, _<_, _≤_}
+use Prim.Native.Nat.{ℕ, _+_, _*_, _/_, _%_, _<_, _≤_}
 use mathlib.Core.Path.{_≡_, refl, sym, _∙_, ap}
-use mathlib.Core.Bool.{Bool, true, false, false≢true}
+use mathlib.Core.Bool.{true}
 use mathlib.Core.List.{List}
 use native.Mathlib.Nat.{add-comm, add-zero}
 use native.Mathlib.Decide.{decLt}
 use native.Mathlib.Omega.{arith}
 use borrow.Author.Tests.{leb-true, le-leb}
-use lib.Bits.{bitOr, or-lt, or-block, or-zero-r}
+use lib.Bits.{bitOr, or-lt, or-block}
 use lib.Dec.{leb}
 use lib.ListN.{getD}
-use Rattle.laws.specs.Pick.{both}
 use Rattle.laws.specs.Lists.{upto}
 use Rattle.laws.proofs.Both.{both-parts, same-tests}
 use Rattle.laws.proofs.Scan.{or-above}

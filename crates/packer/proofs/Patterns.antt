@@ -3,17 +3,17 @@
 -- Assumes nothing.
 use Prim.Native.Nat.{ℕ, _+_, _<_, _≤_}
 use mathlib.Core.Path.{_≡_, refl, sym, _∙_, ap}
-use mathlib.Core.Bool.{Bool, true, false, false≢true, true≢false}
+use mathlib.Core.Bool.{Bool, true, false, false≢true}
 use mathlib.Core.List.{List}
 use native.Mathlib.Decide.{decLt}
 use native.Mathlib.Omega.{arith}
 use borrow.Author.Tests.{eqb-true, eq-eqb, ne-eqb}
 use lib.Dec.{eqb}
 use Rattle.laws.specs.Pick.{pick}
-use Rattle.laws.specs.Lists.{firstOf, countOf}
+use Rattle.laws.specs.Lists.{firstOf}
 use Rattle.laws.proofs.Lists.{first-is, first-none, first-most, first-before, first-at}
 use Rattle.laws.proofs.Counts.{count-more, count-before, count-after, Reached, count-at}
-use Rattle.packer.specs.Glyphs.{glyphsIn, samePattern, firstLike, isFirst, patternsBefore, patternsIn, cellFor, firstIn}
+use Rattle.packer.specs.Glyphs.{glyphsIn, samePattern, firstLike, isFirst, patternsBefore, cellFor, firstIn}
 use Rattle.packer.proofs.Dots.{like-self, like-back, like-on}
 
 module _ (glyphs : List ℕ) where
@@ -82,10 +82,6 @@ module _ (glyphs : List ℕ) where
   pub cell-below : (g h : ℕ) → g < h → cellFor glyphs g < patternsBefore glyphs h
   unfolding cellFor patternsBefore
   cell-below g h l = count-after (isFirst glyphs) (firstLike glyphs g) h (omega (arith, first-most-here g)) (first-first g)
-
-  pub cell-most : (g : ℕ) → cellFor glyphs g ≤ patternsBefore glyphs g
-  unfolding cellFor
-  cell-most g = before-grows (firstLike glyphs g) g (first-most-here g)
 
   -- the first of a pattern takes the next cell, and no other glyph does
   pub cell-first : (g : ℕ) → isFirst glyphs g ≡ true → cellFor glyphs g ≡ patternsBefore glyphs g

@@ -11,7 +11,7 @@ use borrow.Author.Tests.{leb-true, le-leb}
 use lib.Dec.{eqb, leb}
 use lib.ListN.{length, getD, set, replicate, getD-replicate}
 use Rattle.laws.specs.Pick.{pick, both}
-use Rattle.laws.specs.Lists.{countOf, upto}
+use Rattle.laws.specs.Lists.{countOf}
 use Rattle.laws.specs.Within.{within}
 use Rattle.laws.proofs.Both.{none-right}
 use Rattle.laws.proofs.Lists.{Filled, filled-none, filled-more}
@@ -19,14 +19,14 @@ use Rattle.laws.proofs.Tests.{upto-at, upto-all}
 use Rattle.font.specs.Font.{fontCells, cellRows, mostRow, rowOf}
 use Rattle.font.proofs.Each.{within-at, within-each}
 use Rattle.packer.specs.declared.Numbering.{Numbering}
-use Rattle.packer.specs.declared.Numbering.the-variants.{All, TooMany, TooWide}
+use Rattle.packer.specs.declared.Numbering.the-variants.{TooMany, TooWide}
 use Rattle.packer.specs.Glyphs.{mostGlyphs, glyphsIn, samePattern, isFirst, patternsBefore, patternsIn, cellFor, firstIn}
 use Rattle.packer.specs.Packing.{areWhole, areGlyphs}
-use Rattle.packer.specs.Steps.{sameRows, narrowAt, spots, spotAt, lastOf, firstRow, lastAt, nextOf, overOf, Chained, Walk, Found, ToNumber, AllNumbered, Numbered}
+use Rattle.packer.specs.Steps.{narrowAt, spots, spotAt, lastOf, firstRow, lastAt, nextOf, overOf, Chained, Walk, Found, ToNumber, AllNumbered, Numbered}
 use Rattle.packer.proofs.Asked.{whole-parts}
 use Rattle.packer.proofs.Dots.{rows-same, same-rows}
 use Rattle.packer.proofs.Words.{same-rows-at, rows-same as same-where, spot-below}
-use Rattle.packer.proofs.Patterns.{before-more, before-grows, cell-most, first-cell, cell-first, first-in, known, found, not-found}
+use Rattle.packer.proofs.Patterns.{before-more, before-grows, first-cell, cell-first, first-in, known, found, not-found}
 use Rattle.packer.proofs.Chains.{last-most, Heads, heads-more}
 
 -- what it is for a glyph to be narrow

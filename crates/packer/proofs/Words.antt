@@ -1,6 +1,6 @@
 -- Rows as numbers: the numbers of two glyphs' rows are equal exactly if the rows are, and glyphs with the same rows have one spot.
 -- Assumes nothing.
-use Prim.Native.Nat.{ℕ, zero, suc, _+_, _-_, _*_, _/_, _%_, _<_, _≤_}
+use Prim.Native.Nat.{ℕ, _+_, _*_, _/_, _%_, _<_, _≤_}
 use mathlib.Core.Path.{_≡_, refl, sym, _∙_, ap}
 use mathlib.Core.Bool.{Bool, true, false}
 use mathlib.Core.List.{List}
@@ -10,7 +10,6 @@ use native.Mathlib.Omega.{arith}
 use lib.Dec.{eqb}
 use lib.ListN.{getD}
 use borrow.Author.Tests.{eqb-false, eqb-true, eq-eqb}
-use Rattle.laws.specs.Lists.{upto}
 use Rattle.laws.proofs.Tests.{upto-at, upto-all}
 use Rattle.font.specs.Font.{cellRows}
 use Rattle.packer.specs.Steps.{twoAt, fourAt, sameRows, spots, mixedSpot, sumAt, spotAt}

@@ -7,11 +7,11 @@ use mathlib.Core.Logic.{_⊎_, inl, inr, ⊎-elim}
 use mathlib.Core.List.{List, [], _∷_, _++_}
 use Prim.Native.Nat.{ℕ, _+_, _*_, _<_, _≤_}
 use native.Mathlib.Omega.{arith}
-use borrow.Author.Tests.{ne-eqb, eqb-true}
+use borrow.Author.Tests.{ne-eqb}
 use lib.Dec.{eqb}
 use Rattle.laws.specs.Pick.{pick, both, either}
 use Rattle.laws.specs.Lines.{firstShown, anyOf}
-use Rattle.laws.proofs.Both.{both-none, either-none, fails-unless}
+use Rattle.laws.proofs.Both.{both-none, fails-unless}
 use Rattle.laws.proofs.Holders.{first-of-none, first-alike-shown}
 use Rattle.laws.proofs.Placing.{span-in, cell-has, cell-in-row, cell-below, cell-beside, cell-above}
 use Rattle.laws.proofs.Scan.{split}
@@ -24,9 +24,9 @@ use Rattle.display.specs.declared.Kind.the-variants.{Character, Space, Return, 
 use Rattle.display.specs.declared.View.{View}
 use Rattle.display.specs.declared.Pen.{Pen}
 use Rattle.display.specs.Cells.{Cell, Shown, character, space, kindCell, rightOf, belowRow, rowPen, afterWord, goesOn, cellsFrom}
-use Rattle.display.specs.Picture.{Drawn, litAt, rowIn, columnIn, has, shadowOf, throws, shownDot, cellDot, shadedDot, dotAt}
+use Rattle.display.specs.Picture.{Drawn, litAt, rowIn, columnIn, has, throws, shownDot, cellDot, shadedDot, dotAt}
 use Rattle.display.proofs.Shadow as shadow
-use Rattle.display.proofs.Shadow.{Reached, throws-not, ground-plain, dot-plain}
+use Rattle.display.proofs.Shadow.{throws-not, ground-plain, dot-plain}
 use Rattle.pictures.specs.Claims.{Reach, OnTwoCells, OnFirstCell, OnRowsFirst, OnOneOutside, AfterLast, OnNoneOutside, NoShadowElsewhere, inMode, OverMode0}
 
 -- each of a list
@@ -117,12 +117,6 @@ module _ (dots : Drawn) (v : View) (start k : ℕ) where
   module _ (c : Cell) (here : has v k c ≡ true) where
     at : ((c .top .0 ≤ v .line .0) × (v .line .0 < c .top .0 + cellRows * c .size)) × ((c .left .0 ≤ k) × (k < c .left .0 + cellColumns * c .size))
     at = cell-has cellColumns cellRows (v .line .0) k (c .left .0) (c .top .0) (c .size) here
-
-    later-has : (d : Cell) → After c d → has v k d ≡ false
-    later-has d h =
-        let i = at in
-        ⊎-elim (λ below. cell-below 12 18 (v .line .0) k (d .left .0) (d .top .0) (d .size) (omega arith))
-        (λ beside. cell-beside 12 18 (v .line .0) k (d .left .0) (d .top .0) (d .size) (omega arith)) h
 
     later-throws : (d : Cell) → After c d → throws dots v k d ≡ false
     later-throws d h = let i = at in throws-not dots v k d (λ r. ⊎-elim (λ below. omega arith) (λ beside. omega arith) h)

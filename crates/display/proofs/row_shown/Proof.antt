@@ -6,7 +6,6 @@ use Prim.Native.Nat.{ℕ, _+_, _*_}
 use native.Mathlib.Omega.{arith}
 use borrow.Author.Needs.{needs}
 use lib.ListN.{getD}
-use Rattle.stretch.specs.declared.Row.{Row}
 use Rattle.display.specs.Picture.{steadyOr}
 use Rattle.display.proofs.row_shown.Statement.{statement}
 use Rattle.display.proofs.row_shown.Tie as tie

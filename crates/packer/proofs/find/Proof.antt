@@ -1,9 +1,8 @@
 -- `packer::find` meets its contract: the first step of the walk, and then the further ones.
 -- Assumes nothing.
 use native.Mathlib.Omega.{arith}
-use Prim.Native.Nat.{ℕ, _+_, _-_, _<_, _≤_}
-use mathlib.Core.Path.{_≡_, sym, _∙_}
-use mathlib.Core.Bool.{true, false}
+use Prim.Native.Nat.{_-_}
+use mathlib.Core.Path.{sym, _∙_}
 use mir.Syntax.{w8, w16}
 use borrow.Table.Referent.{fInt}
 use borrow.Rule.Slice.Know.{Fit}

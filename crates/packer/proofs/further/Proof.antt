@@ -1,9 +1,8 @@
 -- `packer::further` meets its contract: the walk goes down the chain, to a pattern with the glyph's rows or to the chain's end.
 -- Assumes nothing.
 use native.Mathlib.Omega.{arith}
-use Prim.Native.Nat.{ℕ, _+_, _-_, _<_, _≤_}
-use mathlib.Core.Path.{_≡_, sym, _∙_}
-use mathlib.Core.Bool.{true, false}
+use Prim.Native.Nat.{ℕ, _-_, _≤_}
+use mathlib.Core.Path.{sym, _∙_}
 use mir.Syntax.{w8, w16}
 use borrow.Table.Referent.{fInt}
 use borrow.Rule.Slice.Know.{Fit}

@@ -3,7 +3,7 @@
 use native.Mathlib.Omega.{arith}
 use borrow.Author.Needs.{needs}
 use Prim.Native.Nat.{_≤_}
-use mathlib.Core.Path.{_≡_, _∙_}
+use mathlib.Core.Path.{_∙_}
 use Rattle.laws.proofs.Said.{said-by}
 use Rattle.font.specs.Font.{fontCells}
 use Rattle.packer.specs.Glyphs.{patternsIn}

@@ -2,12 +2,10 @@
 -- Assumes nothing.
 use native.Mathlib.Omega.{arith}
 use borrow.Author.Needs.{needs}
-use Prim.Native.Nat.{ℕ}
-use mathlib.Core.Path.{_∙_, ap, sym}
+use mathlib.Core.Path.{_∙_}
 use mir.Syntax.{w16}
 use borrow.Table.Referent.{fInt}
 use borrow.Rule.Slice.Know.{Fit}
-use Rattle.packer.specs.Steps.{partsNarrow}
 use Rattle.packer.proofs.Parts.{narrow-all}
 use Rattle.packer.proofs.narrow.Statement.{statement}
 use Rattle.packer.proofs.narrow.Tie as tie

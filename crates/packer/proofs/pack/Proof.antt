@@ -3,12 +3,11 @@
 use native.Mathlib.Omega.{arith}
 use borrow.Author.Needs.{needs}
 use mathlib.Core.Path.{_≡_}
-use mathlib.Core.Bool.{true, false}
+use mathlib.Core.Bool.{false}
 use Rattle.laws.proofs.Said.{said-by}
 use Rattle.laws.proofs.Tests.{test-holds, test-fails}
-use Rattle.packer.specs.declared.Numbering.the-variants.{All, TooMany, TooWide}
-use Rattle.packer.specs.Packing.{areWhole, areGlyphs}
-use Rattle.packer.specs.Steps.{AllNumbered}
+use Rattle.packer.specs.declared.Numbering.the-variants.{TooMany, TooWide}
+use Rattle.packer.specs.Packing.{areWhole}
 use Rattle.packer.proofs.Outcomes.{not-whole, not-glyphs, too-many, leaves, numbered-all, numbered-many, numbered-wide}
 use Rattle.packer.proofs.pack.Statement.{statement}
 use Rattle.packer.proofs.pack.Tie as tie

@@ -3,7 +3,7 @@
 use native.Mathlib.Omega.{arith}
 use borrow.Author.Needs.{needs}
 use mathlib.Core.Path.{_∙_}
-use Rattle.packer.specs.Steps.{sumAt, mixedSpot}
+use Rattle.packer.specs.Steps.{sumAt}
 use Rattle.packer.proofs.spot_of.Statement.{statement}
 use Rattle.packer.proofs.spot_of.Tie as tie
 

@@ -1,9 +1,8 @@
 -- `packer::take_rows` meets its contract: l rows are copied, and the others are as they were.
 -- Assumes nothing.
 use native.Mathlib.Omega.{arith}
-use Prim.Native.Nat.{ℕ, _-_, _≤_}
-use mathlib.Core.Path.{refl, ap}
-use lib.ListN.{getD}
+use Prim.Native.Nat.{_-_, _≤_}
+use mathlib.Core.Path.{refl}
 use Rattle.packer.proofs.Rows.{Part, part-none, part-more, part-all}
 use Rattle.packer.proofs.take_rows.Statement.{statement}
 use Rattle.packer.proofs.take_rows.Tie as tie

@@ -4,7 +4,6 @@ use mathlib.Core.Path.{_≡_}
 use mathlib.Core.Bool.{true}
 use native.Mathlib.Omega.{arith}
 use borrow.Author.Tests.{eq-eqb}
-use borrow.Author.Needs.{needs}
 use lib.Dec.{eqb}
 use Rattle.stretch.proofs.Dots.{shade-later}
 use Rattle.stretch.proofs.is_shaded.Statement.{statement}
