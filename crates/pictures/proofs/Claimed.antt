@@ -13,7 +13,7 @@ use Rattle.laws.specs.Pick.{pick, both, either}
 use Rattle.laws.specs.Lines.{firstShown, anyOf}
 use Rattle.laws.proofs.Both.{both-none, fails-unless}
 use Rattle.laws.proofs.Holders.{first-of-none, first-alike-shown}
-use Rattle.laws.proofs.Placing.{span-in, cell-has, cell-in-row, cell-below, cell-beside, cell-above}
+use Rattle.laws.proofs.Placing.{span-in, cell-has, cell-in-row, cell-above}
 use Rattle.laws.proofs.Scan.{split}
 use Rattle.font.specs.Font.{cellRows, cellColumns}
 use Rattle.modes.specs.Modes.{groundByte}
