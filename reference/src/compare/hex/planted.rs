@@ -95,7 +95,9 @@ const CHARACTERS: &[(&str, Retold)] = &[
     ("counted from 1", |number, line| when(number == 19, 19, line.start + line.at + 1)),
     ("the line's start", |number, line| when(number == 19, 19, line.start)),
     ("the offset in the line", |number, line| when(number == 19, 19, line.at)),
-    ("counted from the first digit", |number, line| when(number == 19 && line.at > 0, 19, line.start + line.at - 1)),
+    ("counted from the first digit", |number, line| {
+        when(number == 19 && line.at > 0, 19, line.start + line.at.saturating_sub(1))
+    }),
     ("always 0", |number, _| when(number == 19, 19, 0)),
     ("the line's number", |number, line| {
         when(number == 19, 19, line.text[..line.start].iter().filter(|&&byte| byte == b'\n').count())
@@ -107,12 +109,14 @@ const CHARACTERS: &[(&str, Retold)] = &[
         when(number == 19, 19, line.start + last)
     }),
     ("the first digit of the byte", |number, line| {
-        when(number == 19 && line.at > 0, 19, line.start + line.at - (line.at - 1) % 2)
+        when(number == 19 && line.at > 0, 19, line.start + line.at - line.at.saturating_sub(1) % 2)
     }),
     ("the last digit of the byte", |number, line| {
         when(number == 19 && line.at > 0, 19, line.start + line.at + line.at % 2)
     }),
-    ("the byte's number", |number, line| when(number == 19 && line.at > 0, 19, line.start + (line.at - 1) / 2)),
+    ("the byte's number", |number, line| {
+        when(number == 19 && line.at > 0, 19, line.start + line.at.saturating_sub(1) / 2)
+    }),
     ("each CR LF counted once", |number, line| {
         let crs = line.text[..line.start].windows(2).filter(|two| two == b"\r\n").count();
         when(number == 19, 19, line.start + line.at - crs)
@@ -183,11 +187,11 @@ const SHAPES: &[(&str, Retold)] = &[
         when(number == 20 && line.due().is_some_and(|due| line.body.len() < due), 19, line.end())
     }),
     ("a digit too many told as a character", |number, line| {
-        let due = line.due().unwrap_or(usize::MAX);
+        let due = line.due().unwrap_or(line.body.len());
         when(number == 20 && line.body.len() > due, 19, line.start + due)
     }),
     ("the place of a digit too many", |number, line| {
-        let due = line.due().unwrap_or(usize::MAX);
+        let due = line.due().unwrap_or(line.body.len());
         when(number == 20 && line.body.len() > due, 20, line.start + due)
     }),
     ("the line's end", |number, line| when(number == 20, 20, line.end())),
