@@ -1,5 +1,4 @@
--- Records: document 01, 'The character image', second paragraph, and numbers 8 to 11 of its table, with 19 and 20 by M-102: what a line is
--- that is no record.
+-- Records: document 01, 'The character image', second paragraph, and numbers 8 to 11 of its table; bad characters, and number 20, by M-102.
 -- A record is the list of its bytes: length, address (high byte first), type, data, checksum. A line that has not the record's shape
 -- gives the empty list.
 -- Assumes nothing.
@@ -30,11 +29,11 @@ dataType = 0
 abbrev pub endType : ℕ
 endType = 1
 
--- whether a character belongs in its place of a line: a colon in the first, 0, and a digit in every later one
+-- whether a character belongs in a place of a line, counted from 0: a colon in the first, a digit in every later one
 unfoldable pub belongs : ℕ → ℕ → Bool
 belongs place c = pick (eqb place 0) (eqb c colon) (isDigit c)
 
--- the place of the first bad character of a line without its end, the first that does not belong there; the line's length, where each does
+-- where the first bad character of a line without its end stands, one that does not belong in its place; the line's length, where it has none
 abbrev pub firstBad : List ℕ → ℕ
 firstBad body = firstOf (length body) (λ k. not (belongs k (getD body k 0)))
 
@@ -99,7 +98,7 @@ freshIn earlier r = firstOf (lengthOf r) (λ i. isGiven earlier (addressOf r + i
 abbrev pub countOf : List (List ℕ) → ℕ
 countOf rs = sumAll (map lengthOf rs)
 
--- the number of a record's fault after earlier records, by the order of the table, and 0 where it has none: 20 is that its line has not the shape
+-- the number of a record's fault after earlier records, by the order of the table, and 0 where it has none; 20 is for a line that gives no record
 unfoldable pub faultOf : List (List ℕ) → List ℕ → ℕ
 faultOf earlier r =
     pick (eqb (length r) 0) 20
