@@ -25,8 +25,8 @@
 #include <stdint.h>
 
 /*
- * The minor number goes up when something is added, or is shown or told otherwise than before, the major one when a host has to be compiled
- * again. CHANGELOG.md tells what changed.
+ * The minor number goes up when something is added, or is shown or told otherwise than before, the major one when declarations or layouts
+ * change, so that every host has to be compiled again. CHANGELOG.md tells what changed.
  */
 #define DIRGEFLINT_VERSION_MAJOR 1
 #define DIRGEFLINT_VERSION_MINOR 3
@@ -78,7 +78,7 @@ enum {
     DIRGEFLINT_BAD_GLYPHS = 16,        /* pack: rows that are no whole glyphs, above 256 glyphs, or a row above 4095 */
     DIRGEFLINT_TOO_MANY_PATTERNS = 17, /* pack: more different glyphs than the 62 cells of a font */
     DIRGEFLINT_BAD_ROW = 18,           /* paint, write: a row above 4095 */
-    DIRGEFLINT_BAD_CHARACTER = 19,     /* read: no colon where a line begins, or no digit after it */
+    DIRGEFLINT_BAD_CHARACTER = 19,     /* read: a line's first character that is no colon, or a later one that is no digit */
     DIRGEFLINT_NO_RECORD = 20          /* read: a line of a colon and digits only, or an empty one, that is no record */
 };
 

@@ -9,7 +9,7 @@ use judging::Settings;
 use units::Dots;
 use units::Lines;
 
-// Paints the first `width` dots of a line, one byte for each: 0 for video, else 8 and the colour. Value 0, or numbers 1 to 6.
+// Paints the first `width` dots of a line, one byte for each: 0 for video, else 8 and the colour. Value 0, or numbers 1 to 6 and 18.
 #[no_mangle]
 pub extern "C" fn dirgeflint_paint(
     words: &[u16],

@@ -6,7 +6,7 @@ ghost use Rattle.hex.specs.Reading.{answerOf as Hex·answerOf, leftOf as Hex·l
 ghost use Rattle.answer.specs.Told.{told};
 use answer::Answer;
 
-// Reads a text into the first 8,192 bytes lent. Value: how many bytes its records give; or numbers 6 to 12.
+// Reads a text into the first 8,192 bytes lent. Value: how many bytes its records give; or numbers 6 to 12, 19 and 20.
 #[no_mangle]
 pub extern "C" fn dirgeflint_hex_read(text: &[u8], image: &mut [u8]) -> Answer
     ensures { λ r. ⌜ (told r ≡ Hex·answerOf (now (text .entry)) (length (now (image .entry)))) × (now (image .exit) ≡ Hex·leftOf (now (text .entry)) (now (image .entry))) ⌝ }

@@ -2,7 +2,7 @@
 -- of the text's own bytes.
 -- Assumes nothing.
 use Prim.Native.Nat.{ℕ, zero, suc, _+_, _-_, _<_, _≤_}
-use mathlib.Core.Path.{_≡_, refl, sym, _∙_, ap, subst}
+use mathlib.Core.Path.{_≡_, refl, sym, _∙_, ap}
 use mathlib.Core.Bool.{Bool, true, false, not, false≢true}
 use mathlib.Core.List.{List, [], _∷_}
 use native.Mathlib.Nat.{add-zero}
@@ -18,7 +18,6 @@ use Rattle.laws.specs.Said.{Said, accepted, refused}
 use Rattle.laws.specs.Sums.{sumAll}
 use Rattle.laws.proofs.Both.{fails-unless}
 use Rattle.laws.proofs.Lists.{first-at, first-before}
-use Rattle.laws.proofs.Said.{number-of}
 use Rattle.laws.proofs.Sums.{sum-take}
 use Rattle.hex.specs.Lines.{lines, onto, atEnd, bodyOf, placeOf}
 use Rattle.hex.specs.Records.{belongs, firstBad, hasBad, isShaped, recordOf, records, countOf}
@@ -26,8 +25,9 @@ use Rattle.hex.specs.Reading.{mostText, nth, faultAt, stopOf, faultSaid, judged
 use Rattle.hex.proofs.Lines.{ends-over, body-cuts, body-stops, first-body}
 use Rattle.hex.proofs.Given.{spelled-length}
 use Rattle.image.specs.Image.{imageBytes}
-use Rattle.finer.specs.Claims.{IsFirstBad, CharacterPoints, IsOtherwise, ShapePoints}
-use Rattle.finer.proofs.Texts.{record-at, fault-none, fault-other}
+use Rattle.finer.specs.Document01.{readBy01}
+use Rattle.finer.specs.Claims.{coarser, IsFirstBad, CharacterPoints, IsNoRecord, ShapePoints}
+use Rattle.finer.proofs.Texts.{record-at, fault-none, fault-other, read-coarser}
 
 -- the lines after the first are those of the text after it
 lines-after : (s : List ℕ) → lines (drop (length (getD (lines s) 0 [])) s) ≡ drop 1 (lines s)
@@ -90,22 +90,18 @@ module _ (text : List ℕ) where
         go (no h) = absurd (false≢true (sym goes ∙ ends-over text j (omega arith)))
 
     -- its first bad character
-    points : hasBad body ≡ true → IsFirstBad text (place + firstBad body)
-    unfolding place
+    points : hasBad body ≡ true → IsFirstBad text place (place + firstBad body)
     points e =
         let h : firstBad body < length body = ltb-true (firstBad body) (length body) e in
         let back : place + firstBad body - place ≡ firstBad body = omega arith in
         record {
-          line = k;
-          start = place;
-          starts = refl;
           from = omega arith;
           inside = open-within (place + firstBad body) (body-goes (firstBad body) h);
           bad =
               ap (λ n. belongs n (getD text (place + firstBad body) 0)) back
               ∙ ap (belongs (firstBad body)) (sym (body-at (firstBad body) h))
               ∙ not-true _ (first-at (length body) (λ j. not (belongs j (getD body j 0))) h);
-          goes = λ j l. body-goes j (omega arith);
+          no-end = λ j l. body-goes j (omega arith);
           before = λ j l.
               ap (belongs j) (sym (body-at j (omega arith)))
               ∙ not-false _ (first-before (length body) (λ j. not (belongs j (getD body j 0))) j (omega arith));
@@ -116,67 +112,81 @@ module _ (text : List ℕ) (k : ℕ) (below : k < length (records text)) where
   within-lines : k < length (lines text)
   within-lines = omega (arith, length-map (lines text) recordOf)
 
-  fault-points : (place : ℕ) → faultSaid (bodyOf (nth (lines text) k)) (placeOf (lines text) k) (faultAt (records text) k) ≡ refused 19 place → IsFirstBad text place
-  unfolding faultSaid place body
-  fault-points place e = go (hasBad (bodyOf (nth (lines text) k))) refl (eqb (length (nth (records text) k)) 0) refl e
-    where
-      go : (b : Bool) → hasBad (bodyOf (nth (lines text) k)) ≡ b → (d : Bool) → eqb (length (nth (records text) k)) 0 ≡ d
-          → pick b (refused 19 (placeOf (lines text) k + firstBad (bodyOf (nth (lines text) k)))) (refused (faultAt (records text) k) (placeOf (lines text) k)) ≡ refused 19 place
-          → IsFirstBad text place
-      go true bad d _ e = subst (IsFirstBad text) (ap (λ (a : Said). a .place) e) (points text k within-lines bad)
-      go false bad true none e = absurd (omega (arith, number-of e, fault-none (take k (records text)) (nth (records text) k) none))
-      go false bad false some e = absurd (omega (arith, number-of e, fault-other (take k (records text)) (nth (records text) k) some))
+  said-here : Said
+  said-here = faultSaid (bodyOf (nth (lines text) k)) (placeOf (lines text) k) (faultAt (records text) k)
 
-  fault-otherwise : (place : ℕ) → faultSaid (bodyOf (nth (lines text) k)) (placeOf (lines text) k) (faultAt (records text) k) ≡ refused 20 place → IsOtherwise text place
-  unfolding faultSaid
-  fault-otherwise place e = go (hasBad (bodyOf (nth (lines text) k))) refl (eqb (length (nth (records text) k)) 0) refl e
+  fault-points : said-here .number ≡ 19 → IsFirstBad text (placeOf (lines text) k) (said-here .place)
+  unfolding said-here faultSaid place body
+  fault-points e = go (hasBad (bodyOf (nth (lines text) k))) refl (eqb (length (nth (records text) k)) 0) refl e
     where
       go : (b : Bool) → hasBad (bodyOf (nth (lines text) k)) ≡ b → (d : Bool) → eqb (length (nth (records text) k)) 0 ≡ d
-          → pick b (refused 19 (placeOf (lines text) k + firstBad (bodyOf (nth (lines text) k)))) (refused (faultAt (records text) k) (placeOf (lines text) k)) ≡ refused 20 place
-          → IsOtherwise text place
-      go true bad d _ e = absurd (omega (arith, number-of e))
-      go false bad false some e = absurd (omega (arith, number-of e, fault-other (take k (records text)) (nth (records text) k) some))
+          → pick b (refused 19 (placeOf (lines text) k + firstBad (bodyOf (nth (lines text) k)))) (refused (faultAt (records text) k) (placeOf (lines text) k)) .number ≡ 19
+          → IsFirstBad text (placeOf (lines text) k)
+          (pick b (refused 19 (placeOf (lines text) k + firstBad (bodyOf (nth (lines text) k)))) (refused (faultAt (records text) k) (placeOf (lines text) k)) .place)
+      go true bad d _ e = points text k within-lines bad
+      go false bad true none e = absurd (omega (arith, fault-none (take k (records text)) (nth (records text) k) none))
+      go false bad false some e = absurd (omega (arith, fault-other (take k (records text)) (nth (records text) k) some))
+
+  fault-otherwise : said-here .number ≡ 20 → IsNoRecord text (said-here .place)
+  unfolding said-here faultSaid
+  fault-otherwise e = go (hasBad (bodyOf (nth (lines text) k))) refl (eqb (length (nth (records text) k)) 0) refl e
+    where
+      go : (b : Bool) → hasBad (bodyOf (nth (lines text) k)) ≡ b → (d : Bool) → eqb (length (nth (records text) k)) 0 ≡ d
+          → pick b (refused 19 (placeOf (lines text) k + firstBad (bodyOf (nth (lines text) k)))) (refused (faultAt (records text) k) (placeOf (lines text) k)) .number ≡ 20
+          → IsNoRecord text
+          (pick b (refused 19 (placeOf (lines text) k + firstBad (bodyOf (nth (lines text) k)))) (refused (faultAt (records text) k) (placeOf (lines text) k)) .place)
+      go true bad d _ e = absurd (omega arith)
+      go false bad false some e = absurd (omega (arith, fault-other (take k (records text)) (nth (records text) k) some))
       go false bad true none e =
           let empty = eqb-true (length (nth (records text) k)) 0 none in
           record {
             line = k;
-            starts = sym (ap (λ (a : Said). a .place) e);
+            inside = within-lines;
+            starts = refl;
             clean = bad;
             unshaped = fails-unless (isShaped (bodyOf (nth (lines text) k))) (λ shaped.
                 omega (arith, spelled-length (bodyOf (nth (lines text) k)) shaped, ap length (record-at (lines text) k below)));
           }
 
--- an answer by neither test of a length, nor of the end, is that of the line
-module _ (text : List ℕ) (number place : ℕ) (fine : 12 < number) where
-  at-the-line : (k : ℕ) → judged (lines text) (records text) k ≡ refused number place
-      → (k < length (records text)) × (faultSaid (bodyOf (nth (lines text) k)) (placeOf (lines text) k) (faultAt (records text) k) ≡ refused number place)
-  unfolding judged
-  at-the-line k e = go (ltb k (length (records text))) refl (ltb 0 (faultAt (records text) k)) (ltb (k + 1) (length (records text))) e
+-- a number above 12 is said by neither length nor end: it is that line's
+module _ (text : List ℕ) (P : ℕ → Type 0) (n : ℕ) (high : 12 < n) where
+  at-the-line : (k : ℕ) → ((below : k < length (records text)) → said-here text k below .number ≡ n → P (said-here text k below .place))
+      → judged (lines text) (records text) k .number ≡ n → P (judged (lines text) (records text) k .place)
+  unfolding judged said-here
+  at-the-line k so e = go (ltb k (length (records text))) refl (ltb 0 (faultAt (records text) k)) (ltb (k + 1) (length (records text))) e
     where
-      go : (a : Bool) → ltb k (length (records text)) ≡ a → (f l : Bool)
-          → pick a (pick f (faultSaid (bodyOf (nth (lines text) k)) (placeOf (lines text) k) (faultAt (records text) k))
-          (pick l (refused 12 (placeOf (lines text) (k + 1))) (accepted (countOf (records text))))) (refused 12 (placeOf (lines text) k)) ≡ refused number place
-          → (k < length (records text)) × (faultSaid (bodyOf (nth (lines text) k)) (placeOf (lines text) k) (faultAt (records text) k) ≡ refused number place)
-      go true h true l e = (ltb-true k (length (records text)) h, e)
-      go true h false true e = absurd (omega (arith, number-of e))
-      go true h false false e = absurd (omega (arith, number-of e))
-      go false h f l e = absurd (omega (arith, number-of e))
+      told : Bool → Bool → Bool → Said
+      told a f l =
+          pick a (pick f (faultSaid (bodyOf (nth (lines text) k)) (placeOf (lines text) k) (faultAt (records text) k))
+          (pick l (refused 12 (placeOf (lines text) (k + 1))) (accepted (countOf (records text))))) (refused 12 (placeOf (lines text) k))
 
-  told-there : (room : ℕ) → answerOf text room ≡ refused number place → verdict text ≡ refused number place
+      go : (a : Bool) → ltb k (length (records text)) ≡ a → (f l : Bool) → told a f l .number ≡ n → P (told a f l .place)
+      go true h true l e = so (ltb-true k (length (records text)) h) e
+      go true h false true e = absurd (omega arith)
+      go true h false false e = absurd (omega arith)
+      go false h f l e = absurd (omega arith)
+
+  told-there : (room : ℕ) → (verdict text .number ≡ n → P (verdict text .place)) → answerOf text room .number ≡ n → P (answerOf text room .place)
   unfolding answerOf
-  told-there room e = go (ltb room imageBytes) (ltb mostText (length text)) e
+  told-there room so e = go (ltb room imageBytes) (ltb mostText (length text)) e
     where
-      go : (a b : Bool) → pick a (refused 6 0) (pick b (refused 7 0) (verdict text)) ≡ refused number place → verdict text ≡ refused number place
-      go true b e = absurd (omega (arith, number-of e))
-      go false true e = absurd (omega (arith, number-of e))
-      go false false e = e
+      go : (a b : Bool) → pick a (refused 6 0) (pick b (refused 7 0) (verdict text)) .number ≡ n → P (pick a (refused 6 0) (pick b (refused 7 0) (verdict text)) .place)
+      go true b e = absurd (omega arith)
+      go false true e = absurd (omega arith)
+      go false false e = so e
 
 pub character-points : CharacterPoints
-character-points text room place e =
-    let there = at-the-line text 19 place (omega arith) (stopOf (records text)) (told-there text 19 place (omega arith) room e) in
-    fault-points text (stopOf (records text)) (there .0) place (there .1)
+character-points text room e =
+    let start = placeOf (lines text) (stopOf (records text)) in
+    let is : readBy01 text room .place ≡ start = ap (λ (a : Said). a .place) (read-coarser text room ∙ bad-coarser start (answerOf text room) e) in
+    rw is
+    (told-there text (IsFirstBad text start) 19 (omega arith) room
+    (at-the-line text (IsFirstBad text start) 19 (omega arith) (stopOf (records text)) (fault-points text (stopOf (records text)))) e)
+  where
+    bad-coarser : (start : ℕ) (a : Said) → a .number ≡ 19 → coarser start a ≡ refused 7 start
+    bad-coarser start a e = rw e
 
 pub shape-points : ShapePoints
-shape-points text room place e =
-    let there = at-the-line text 20 place (omega arith) (stopOf (records text)) (told-there text 20 place (omega arith) room e) in
-    fault-otherwise text (stopOf (records text)) (there .0) place (there .1)
+shape-points text room e =
+    told-there text (IsNoRecord text) 20 (omega arith) room
+    (at-the-line text (IsNoRecord text) 20 (omega arith) (stopOf (records text)) (fault-otherwise text (stopOf (records text)))) e

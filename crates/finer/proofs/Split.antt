@@ -1,7 +1,7 @@
 -- Painting and writing: the two tests of a font are document 01's one, and the first row above 4095 is where the second fails.
 -- Assumes nothing.
 use Prim.Native.Nat.{ℕ, _<_}
-use mathlib.Core.Path.{_≡_, refl, sym, _∙_, ap, subst}
+use mathlib.Core.Path.{_≡_, refl, sym, _∙_, ap}
 use mathlib.Core.Bool.{Bool, true, false, not}
 use mathlib.Core.List.{List, _++_}
 use native.Mathlib.Omega.{arith}
@@ -12,9 +12,11 @@ use Rattle.laws.specs.Pick.{pick, both}
 use Rattle.laws.specs.Said.{Said, accepted, refused}
 use Rattle.laws.specs.Within.{within, firstAbove}
 use Rattle.laws.proofs.Lists.{first-most, first-at, first-before}
-use Rattle.laws.proofs.Said.{number-of}
 use Rattle.laws.proofs.Scan.{within-first}
 use Rattle.font.specs.Font.{fontRows, mostRow, isFont, fontDot}
+use Rattle.units.specs.declared.Dots.{Dots}
+use Rattle.units.specs.declared.Lines.{Lines}
+use Rattle.judging.specs.declared.Settings.{Settings}
 use Rattle.judging.specs.Judging.{inRange, mostRatio, areWords, onScreen, answerOf as painting}
 use Rattle.display.specs.Words.{kindsOf}
 use Rattle.display.specs.Painting.{lineOf, leftBy}
@@ -22,9 +24,10 @@ use Rattle.image.specs.Image.{imageOf}
 use Rattle.writer.specs.Text.{textOf, textBytes}
 use Rattle.writer.specs.Writing.{answerOf as writing, leftOf as writeLeft}
 use Rattle.finer.specs.Document01.{paintBy01, writeBy01}
-use Rattle.finer.specs.Claims.{coarser, RefusedAlike, AcceptedAlike, PaintAsBefore, PaintLeavesAsBefore, WriteAsBefore, WriteLeavesAsBefore, IsFirstWide, PaintPoints, WritePoints}
+use Rattle.finer.specs.Claims.{coarser, Alike, PaintCoarser, PaintAlike, PaintLeaves, WriteCoarser, WriteAlike, WriteLeaves, PaintLength, WriteLength, IsFirstAbove, PaintPoints, WritePoints}
 
-pub refused-alike : RefusedAlike
+-- coarser numbers refuse the same, and leave an acceptance as it is
+refused-alike : (start : ℕ) (a : Said) → eqb (coarser start a .number) 0 ≡ eqb (a .number) 0
 refused-alike start a = go (eqb (a .number) 18) refl (eqb (a .number) 19) refl (eqb (a .number) 20) refl
   where
     go : (b : Bool) → eqb (a .number) 18 ≡ b → (d : Bool) → eqb (a .number) 19 ≡ d → (f : Bool) → eqb (a .number) 20 ≡ f
@@ -34,8 +37,11 @@ refused-alike start a = go (eqb (a .number) 18) refl (eqb (a .number) 19) refl (
     go false _ false _ true e = rw (eqb-true (a .number) 20 e)
     go false _ false _ false _ = refl
 
-pub accepted-alike : AcceptedAlike
+accepted-alike : (start : ℕ) (a : Said) → a .number ≡ 0 → coarser start a ≡ a
 accepted-alike start a e = rw e
+
+pub coarser-alike : (start : ℕ) (a b : Said) → a ≡ coarser start b → Alike a b
+coarser-alike start a b e = (ap (λ (x : Said). eqb (x .number) 0) e ∙ refused-alike start b, λ z. e ∙ accepted-alike start b z)
 
 -- a font's fault in document 01's numbers, whatever is tested after it
 font-split : (font : List ℕ) (rest : Said) → coarser 0 rest ≡ rest
@@ -49,9 +55,9 @@ font-split font rest same = go (eqb (length font) fontRows) (within mostRow font
     go true false = refl
     go false b = refl
 
-pub paint-as-before : PaintAsBefore
+pub paint-coarser : PaintCoarser
 unfolding paintBy01 painting
-paint-as-before words font s line width room = go (not (inRange s)) (eqb (s .ratio) mostRatio) (not (areWords words))
+paint-coarser words font s line width room = go (not (inRange s)) (eqb (s .ratio) mostRatio) (not (areWords words))
   where
     later : (a b : Bool) → coarser 0 (pick a (refused 5 0) (pick b (refused 6 0) (accepted 0))) ≡ pick a (refused 5 0) (pick b (refused 6 0) (accepted 0))
     later true b = refl
@@ -70,29 +76,35 @@ paint-as-before words font s line width room = go (not (inRange s)) (eqb (s .rat
     go false false true = refl
     go false false false = font-split font rest (later (not (onScreen line width)) (ltb room (width .0)))
 
-pub paint-leaves-as-before : PaintLeavesAsBefore
-unfolding leftBy
-paint-leaves-as-before words font s frame line width out =
-    ap (λ (b : Bool). pick b (lineOf (kindsOf words) (fontDot font) s frame line width ++ drop (width .0) out) out)
-    (ap (λ (a : Said). eqb (a .number) 0) (paint-as-before words font s line width (length out)) ∙ refused-alike 0 (painting words font s line width (length out)))
+pub paint-alike : PaintAlike
+paint-alike words font s line width room = coarser-alike 0 _ _ (paint-coarser words font s line width room)
 
-pub write-as-before : WriteAsBefore
+pub paint-leaves : PaintLeaves
+unfolding leftBy
+paint-leaves words font s frame line width out =
+    ap (λ (b : Bool). pick b (lineOf (kindsOf words) (fontDot font) s frame line width ++ drop (width .0) out) out)
+    (paint-alike words font s line width (length out) .0)
+
+pub write-coarser : WriteCoarser
 unfolding writeBy01 writing
-write-as-before font room = font-split font (pick (ltb room textBytes) (refused 6 0) (accepted 0)) (later (ltb room textBytes))
+write-coarser font room = font-split font (pick (ltb room textBytes) (refused 6 0) (accepted 0)) (later (ltb room textBytes))
   where
     later : (b : Bool) → coarser 0 (pick b (refused 6 0) (accepted 0)) ≡ pick b (refused 6 0) (accepted 0)
     later true = refl
     later false = refl
 
-pub write-leaves-as-before : WriteLeavesAsBefore
+pub write-alike : WriteAlike
+write-alike font room = coarser-alike 0 _ _ (write-coarser font room)
+
+pub write-leaves : WriteLeaves
 unfolding writeLeft
-write-leaves-as-before font room =
+write-leaves font room =
     ap (λ (b : Bool). pick b (textOf (imageOf font) ++ drop textBytes room) room)
-    (ap (λ (a : Said). eqb (a .number) 0) (write-as-before font (length room)) ∙ refused-alike 0 (writing font (length room)))
+    (write-alike font (length room) .0)
 
 -- where the place of 18 points
-first-wide : (font : List ℕ) → eqb (length font) fontRows ≡ true → within mostRow font ≡ false → IsFirstWide font (firstAbove mostRow font)
-first-wide font long wide =
+first-above : (font : List ℕ) → eqb (length font) fontRows ≡ true → within mostRow font ≡ false → IsFirstAbove font (firstAbove mostRow font)
+first-above font long wide =
     let size = eqb-true (length font) fontRows long in
     let other = eqb-false (firstAbove mostRow font) (length font) (sym (within-first mostRow font) ∙ wide) in
     let most = first-most (length font) (λ k. ltb mostRow (getD font k 0)) in
@@ -100,46 +112,89 @@ first-wide font long wide =
     record {
       size = size;
       inside = omega arith;
-      wide = ltb-true _ _ (first-at (length font) (λ k. ltb mostRow (getD font k 0)) inside);
+      above = ltb-true _ _ (first-at (length font) (λ k. ltb mostRow (getD font k 0)) inside);
       before = λ k h. ltb-false _ _ (first-before (length font) (λ k. ltb mostRow (getD font k 0)) k h);
     }
 
--- an answer 18 is that of these two tests
-font-points : (font : List ℕ) (rest : Said) (row : ℕ) → (rest .number ≡ 18 → ⊥)
-    → pick (not (eqb (length font) fontRows)) (refused 4 0) (pick (not (within mostRow font)) (refused 18 (firstAbove mostRow font)) rest) ≡ refused 18 row
-    → IsFirstWide font row
-font-points font rest row other e = go (eqb (length font) fontRows) refl (within mostRow font) refl e
-  where
-    go : (a : Bool) → eqb (length font) fontRows ≡ a → (b : Bool) → within mostRow font ≡ b
-        → pick (not a) (refused 4 0) (pick (not b) (refused 18 (firstAbove mostRow font)) rest) ≡ refused 18 row → IsFirstWide font row
-    go false _ b _ e = absurd (omega (arith, number-of e))
-    go true long true _ e = absurd (other (number-of e))
-    go true long false wide e = subst (IsFirstWide font) (ap (λ (a : Said). a .place) e) (first-wide font long wide)
+-- 18 is said by the second of the two tests, and 4 by the first
+module _ (font : List ℕ) (rest : Said) where
+  fontSaid : Said
+  fontSaid = pick (not (eqb (length font) fontRows)) (refused 4 0) (pick (not (within mostRow font)) (refused 18 (firstAbove mostRow font)) rest)
+
+  font-points : (rest .number ≡ 18 → ⊥) → fontSaid .number ≡ 18 → IsFirstAbove font (fontSaid .place)
+  unfolding fontSaid
+  font-points other e = go (eqb (length font) fontRows) refl (within mostRow font) refl e
+    where
+      go : (a : Bool) → eqb (length font) fontRows ≡ a → (b : Bool) → within mostRow font ≡ b
+          → pick (not a) (refused 4 0) (pick (not b) (refused 18 (firstAbove mostRow font)) rest) .number ≡ 18
+          → IsFirstAbove font (pick (not a) (refused 4 0) (pick (not b) (refused 18 (firstAbove mostRow font)) rest) .place)
+      go false _ b _ e = absurd (omega arith)
+      go true long true _ e = absurd (other e)
+      go true long false wide e = first-above font long wide
+
+  font-length : (rest .number ≡ 4 → ⊥) → fontSaid .number ≡ 4 → length font ≡ fontRows → ⊥
+  unfolding fontSaid
+  font-length other e = go (eqb (length font) fontRows) refl (within mostRow font) e
+    where
+      go : (a : Bool) → eqb (length font) fontRows ≡ a → (b : Bool)
+          → pick (not a) (refused 4 0) (pick (not b) (refused 18 (firstAbove mostRow font)) rest) .number ≡ 4 → length font ≡ fontRows → ⊥
+      go false other-length b e = eqb-false (length font) fontRows other-length
+      go true _ true e = absurd (other e)
+      go true _ false e = absurd (omega arith)
+
+-- what is told after them is neither
+module _ (b : Bool) where
+  room-said : Said
+  room-said = pick b (refused 6 0) (accepted 0)
+
+  room-other : (n : ℕ) → 0 < n → (n ≡ 6 → ⊥) → room-said .number ≡ n → ⊥
+  unfolding room-said
+  room-other n some other e = go b e
+    where
+      go : (b : Bool) → pick b (refused 6 0) (accepted 0) .number ≡ n → ⊥
+      go true e = other (sym e)
+      go false e = omega arith
+
+  screen-other : (a : Bool) (n : ℕ) → 0 < n → (n ≡ 5 → ⊥) → (n ≡ 6 → ⊥) → pick a (refused 5 0) room-said .number ≡ n → ⊥
+  unfolding room-said
+  screen-other true n some five six e = five (sym e)
+  screen-other false n some five six e = room-other n some six e
 
 pub write-points : WritePoints
-unfolding writing
-write-points font room row e = font-points font (pick (ltb room textBytes) (refused 6 0) (accepted 0)) row (later (ltb room textBytes)) e
-  where
-    later : (b : Bool) → pick b (refused 6 0) (accepted 0) .number ≡ 18 → ⊥
-    later true e = omega arith
-    later false e = omega arith
+unfolding writing fontSaid room-said
+write-points font room e = font-points font (room-said (ltb room textBytes)) (room-other (ltb room textBytes) 18 (omega arith) (λ z. omega arith)) e
+
+pub write-length : WriteLength
+unfolding writing fontSaid room-said
+write-length font room e = font-length font (room-said (ltb room textBytes)) (room-other (ltb room textBytes) 4 (omega arith) (λ z. omega arith)) e
+
+module _ (words font : List ℕ) (s : Settings) (line : Lines) (width : Dots) (room : ℕ) where
+  later : Said
+  later = pick (not (onScreen line width)) (refused 5 0) (room-said (ltb room (width .0)))
+
+  -- 4 and 18 come after the tests of settings and words
+  behind : (P : ℕ → Type 0) (n : ℕ) → 3 < n → (fontSaid font later .number ≡ n → P (fontSaid font later .place))
+      → painting words font s line width room .number ≡ n → P (painting words font s line width room .place)
+  unfolding painting fontSaid later room-said
+  behind P n high so e = go (not (inRange s)) (eqb (s .ratio) mostRatio) (not (areWords words)) e
+    where
+      tests : Bool → Bool → Bool → Said
+      tests a b d = pick a (refused 1 0) (pick b (refused 2 0) (pick d (refused 3 0) (fontSaid font later)))
+
+      go : (a b d : Bool) → tests a b d .number ≡ n → P (tests a b d .place)
+      go true b d e = absurd (omega arith)
+      go false true d e = absurd (omega arith)
+      go false false true e = absurd (omega arith)
+      go false false false e = so e
 
 pub paint-points : PaintPoints
-unfolding painting
-paint-points words font s line width room row e = go (not (inRange s)) (eqb (s .ratio) mostRatio) (not (areWords words)) e
-  where
-    later : (a b : Bool) → pick a (refused 5 0) (pick b (refused 6 0) (accepted 0)) .number ≡ 18 → ⊥
-    later true b e = omega arith
-    later false true e = omega arith
-    later false false e = omega arith
+unfolding later room-said
+paint-points words font s line width room =
+    behind words font s line width room (IsFirstAbove font) 18 (omega arith)
+    (font-points font (later words font s line width room) (screen-other (ltb room (width .0)) (not (onScreen line width)) 18 (omega arith) (λ z. omega arith) (λ z. omega arith)))
 
-    go : (a b d : Bool)
-        → pick a (refused 1 0) (pick b (refused 2 0) (pick d (refused 3 0)
-        (pick (not (eqb (length font) fontRows)) (refused 4 0) (pick (not (within mostRow font)) (refused 18 (firstAbove mostRow font))
-        (pick (not (onScreen line width)) (refused 5 0) (pick (ltb room (width .0)) (refused 6 0) (accepted 0))))))) ≡ refused 18 row
-        → IsFirstWide font row
-    go true b d e = absurd (omega (arith, number-of e))
-    go false true d e = absurd (omega (arith, number-of e))
-    go false false true e = absurd (omega (arith, number-of e))
-    go false false false e =
-        font-points font (pick (not (onScreen line width)) (refused 5 0) (pick (ltb room (width .0)) (refused 6 0) (accepted 0))) row (later (not (onScreen line width)) (ltb room (width .0))) e
+pub paint-length : PaintLength
+unfolding later room-said
+paint-length words font s line width room =
+    behind words font s line width room (λ p. length font ≡ fontRows → ⊥) 4 (omega arith)
+    (font-length font (later words font s line width room) (screen-other (ltb room (width .0)) (not (onScreen line width)) 4 (omega arith) (λ z. omega arith) (λ z. omega arith)))

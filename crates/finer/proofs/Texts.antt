@@ -11,7 +11,7 @@ use lib.Dec.{eqb, ltb}
 use lib.ListN.{length, getD, take, drop, length-drop, List·getD-map}
 use lib.Seq.{getD-drop}
 use Rattle.laws.specs.Pick.{pick}
-use Rattle.laws.specs.Said.{Said, accepted, refused}
+use Rattle.laws.specs.Said.{accepted, refused}
 use Rattle.laws.specs.Lists.{tabulate, upto}
 use Rattle.laws.proofs.Both.{both-parts, same-tests}
 use Rattle.laws.proofs.Lists.{first-same}
@@ -24,8 +24,8 @@ use Rattle.hex.specs.Reading.{mostText, nth, faultAt, stopOf, faultSaid, judged
 use Rattle.hex.proofs.Passed.{record-nil}
 use Rattle.hex.proofs.Shape.{colon-first, digit-later, first-colon, later-digit, none-bad, each-belongs, Fits, shaped-fits, fits-shaped}
 use Rattle.finer.specs.Document01.{isShaped01, recordBy01, faultBy01, stopBy01, judgedBy01, readBy01}
-use Rattle.finer.specs.Claims.{coarser, ReadAsBefore, ReadLeavesAsBefore}
-use Rattle.finer.proofs.Split.{refused-alike}
+use Rattle.finer.specs.Claims.{coarser, ReadCoarser, ReadAlike, ReadLeaves, ReadLength}
+use Rattle.finer.proofs.Split.{coarser-alike}
 
 -- one shape
 module _ (body : List ℕ) where
@@ -147,9 +147,9 @@ judged-before ls rs k is =
     go true e false false = refl
     go false e f l = refl
 
-pub read-as-before : ReadAsBefore
+pub read-coarser : ReadCoarser
 unfolding readBy01 answerOf
-read-as-before text room =
+read-coarser text room =
     ap (λ (rs : List (List ℕ)). pick (ltb room imageBytes) (refused 6 0) (pick (ltb mostText (length text)) (refused 7 0) (judgedBy01 (lines text) rs (stopBy01 rs)))) (same-records (lines text))
     ∙ ap (λ (k : ℕ). pick (ltb room imageBytes) (refused 6 0) (pick (ltb mostText (length text)) (refused 7 0) (judgedBy01 (lines text) (records text) k))) (one-stop (records text))
     ∙ go (ltb room imageBytes) (ltb mostText (length text))
@@ -160,9 +160,55 @@ read-as-before text room =
     go false true = refl
     go false false = judged-before (lines text) (records text) (stopOf (records text)) (λ h. record-at (lines text) (stopOf (records text)) h)
 
-pub read-leaves-as-before : ReadLeavesAsBefore
+pub read-alike : ReadAlike
+read-alike text room = coarser-alike (placeOf (lines text) (stopOf (records text))) _ _ (read-coarser text room)
+
+-- 7 is said of the text's length: no line is told so
+fault-seven : (body : List ℕ) (place number : ℕ) → (number ≡ 7 → ⊥) → faultSaid body place number .number ≡ 7 → ⊥
+unfolding faultSaid
+fault-seven body place number other e = go (hasBad body) e
+  where
+    go : (b : Bool) → pick b (refused 19 (place + firstBad body)) (refused number place) .number ≡ 7 → ⊥
+    go true e = omega arith
+    go false e = other e
+
+fault-no-seven : (es : List (List ℕ)) (r : List ℕ) → faultOf es r ≡ 7 → ⊥
+unfolding faultOf
+fault-no-seven es r e =
+    go (eqb (length r) 0) (not (eqb (sumOf r) 0)) (not (pick (isEnd r) true (eqb (typeOf r) 0))) (ltb 8192 (addressOf r + lengthOf r)) (ltb (freshIn es r) (lengthOf r)) e
+  where
+    go : (s a b d f : Bool) → _≡_ {A = ℕ} (pick s 20 (pick a 8 (pick b 9 (pick d 10 (pick f 11 0))))) 7 → ⊥
+    go true a b d f e = omega arith
+    go false true b d f e = omega arith
+    go false false true d f e = omega arith
+    go false false false true f e = omega arith
+    go false false false false true e = omega arith
+    go false false false false false e = omega arith
+
+judged-no-seven : (ls rs : List (List ℕ)) (k : ℕ) → judged ls rs k .number ≡ 7 → ⊥
+unfolding judged
+judged-no-seven ls rs k e = go (ltb k (length rs)) (ltb 0 (faultAt rs k)) (ltb (k + 1) (length rs)) e
+  where
+    go : (a f l : Bool)
+        → pick a (pick f (faultSaid (bodyOf (nth ls k)) (placeOf ls k) (faultAt rs k)) (pick l (refused 12 (placeOf ls (k + 1))) (accepted (countOf rs)))) (refused 12 (placeOf ls k)) .number ≡ 7
+        → ⊥
+    go true true l e = fault-seven (bodyOf (nth ls k)) (placeOf ls k) (faultAt rs k) (fault-no-seven (take k rs) (nth rs k)) e
+    go true false true e = omega arith
+    go true false false e = omega arith
+    go false f l e = omega arith
+
+pub read-length : ReadLength
+unfolding answerOf
+read-length text room e = go (ltb room imageBytes) (ltb mostText (length text)) refl e
+  where
+    go : (a b : Bool) → ltb mostText (length text) ≡ b → pick a (refused 6 0) (pick b (refused 7 0) (verdict text)) .number ≡ 7 → mostText < length text
+    go true b h e = absurd (omega arith)
+    go false true h e = ltb-true mostText (length text) h
+    go false false h e = absurd (judged-no-seven (lines text) (records text) (stopOf (records text)) e)
+
+pub read-leaves : ReadLeaves
 unfolding leftOf
-read-leaves-as-before text room =
+read-leaves text room =
     ap (λ (rs : List (List ℕ)). pick (eqb (readBy01 text (length room) .number) 0) (tabulate imageBytes (byteIn unused rs) ++ drop imageBytes room) room) (same-records (lines text))
     ∙ ap (λ (b : Bool). pick b (tabulate imageBytes (byteIn unused (records text)) ++ drop imageBytes room) room)
-    (ap (λ (a : Said). eqb (a .number) 0) (read-as-before text (length room)) ∙ refused-alike (placeOf (lines text) (stopOf (records text))) (answerOf text (length room)))
+    (read-alike text (length room) .0)

@@ -1,5 +1,6 @@
--- What document 01 alone says of painting, writing and reading, without M-102: 4 for any fault of the font, and 7 for a text too long or, at the
--- line's start, for any line that has not the record's shape. Only the claims of this crate cite these definitions.
+-- The answers of painting, writing and reading by document 01's own numbers: 4 for any fault of the font, and 7 for a text too long or, at the line's
+-- start, for any line that has not the record's shape. What an accepted call leaves is the account's, but that the records of a text are found by
+-- document 01's shape. Only the claims of this crate cite these definitions.
 -- Assumes nothing.
 use Prim.Native.Nat.{ℕ, _+_, _*_}
 use mathlib.Core.Bool.{Bool, true, not}

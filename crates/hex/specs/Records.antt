@@ -98,7 +98,8 @@ freshIn earlier r = firstOf (lengthOf r) (λ i. isGiven earlier (addressOf r + i
 abbrev pub countOf : List (List ℕ) → ℕ
 countOf rs = sumAll (map lengthOf rs)
 
--- the number of a record's fault after earlier records, by the order of the table, and 0 where it has none; 20 is for a line that gives no record
+-- the number of a record's fault after earlier records, by the order of the table, and 0 where it has none; 20 is for a
+-- line that gives no record, of which Reading tells 19 where it has a bad character
 unfoldable pub faultOf : List (List ℕ) → List ℕ → ℕ
 faultOf earlier r =
     pick (eqb (length r) 0) 20

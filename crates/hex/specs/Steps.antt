@@ -107,7 +107,7 @@ pub record Parsed (text : List ℕ) (at : ℕ) (bytes : List ℕ) (r : Line) : T
   pub line : r ≡ lineAt text at
   pub front : take (length (recordAt text at)) bytes ≡ recordAt text at
 
-pub record ToJudge (digits text : List ℕ) (at : ℕ) : Type 0 where
+pub record ToSearch (digits text : List ℕ) (at : ℕ) : Type 0 where
   pub table : digits ≡ digitTable
   pub here : at < length text
   pub short : length text ≤ mostText

@@ -8,7 +8,7 @@ ghost use Rattle.image.specs.Image.{imageBytes};
 ghost use Rattle.hex.specs.Records.{belongs as Records·belongs, addressOf};
 ghost use Rattle.hex.specs.Lines.{bodyOf};
 ghost use Rattle.hex.specs.Reading.{mostText, faultSaid, answerOf, leftOf, said};
-ghost use Rattle.hex.specs.Steps.{ToCollect, Collected, ToParse, Parsed, ToJudge, digitTable, ToDecode, Decoded, ToSpell, spelledAt, endedBy, isFresh, ToStore, storedAt, pastEnd, byteOf};
+ghost use Rattle.hex.specs.Steps.{ToCollect, Collected, ToParse, Parsed, ToSearch, digitTable, ToDecode, Decoded, ToSpell, spelledAt, endedBy, isFresh, ToStore, storedAt, pastEnd, byteOf};
 
 mod digits;
 
@@ -187,7 +187,7 @@ fn parse(digits: &[u8], text: &[u8], at: usize, bytes: &mut [u8]) -> Line
 
 // The answer at a line without the record's shape: its first bad character, or, where each is in its place, the line's start.
 fn bad_line(digits: &[u8], text: &[u8], at: usize) -> Outcome
-    requires { ⌜ ToJudge (now digits) (now text) at ⌝ }
+    requires { ⌜ ToSearch (now digits) (now text) at ⌝ }
     ensures { λ r. ⌜ said r ≡ faultSaid (bodyOf (drop at (now (text .entry)))) at 20 ⌝ }
 {
     let start = at as u32;
