@@ -4,8 +4,9 @@ use Prim.Native.Nat.{ℕ, _<_}
 use mathlib.Core.Path.{_≡_, refl, sym, _∙_, ap}
 use mathlib.Core.Bool.{Bool, true, false, not}
 use mathlib.Core.List.{List, _++_}
+use native.Mathlib.Decide.{ℕ-discrete}
 use native.Mathlib.Omega.{arith}
-use borrow.Author.Tests.{ltb-true, ltb-false, eqb-true, eqb-false}
+use borrow.Author.Tests.{ltb-true, ltb-false, eqb-true, eqb-false, ne-eqb}
 use lib.Dec.{eqb, ltb}
 use lib.ListN.{length, getD, drop}
 use Rattle.laws.specs.Pick.{pick, both}
@@ -28,14 +29,13 @@ use Rattle.finer.specs.Claims.{coarser, Alike, PaintCoarser, PaintAlike,
 
 -- coarser numbers refuse the same, and leave an acceptance as it is
 refused-alike : (start : ℕ) (a : Said) → eqb (coarser start a .number) 0 ≡ eqb (a .number) 0
-refused-alike start a = go (eqb (a .number) 18) refl (eqb (a .number) 19) refl (eqb (a .number) 20) refl
+refused-alike start a = go (ℕ-discrete (a .number) 18) (ℕ-discrete (a .number) 19) (ℕ-discrete (a .number) 20)
   where
-    go : (b : Bool) → eqb (a .number) 18 ≡ b → (d : Bool) → eqb (a .number) 19 ≡ d → (f : Bool) → eqb (a .number) 20 ≡ f
-        → eqb (pick b (refused 4 0) (pick d (refused 7 start) (pick f (refused 7 (a .place)) a)) .number) 0 ≡ eqb (a .number) 0
-    go true e d _ f _ = rw (eqb-true (a .number) 18 e)
-    go false _ true e f _ = rw (eqb-true (a .number) 19 e)
-    go false _ false _ true e = rw (eqb-true (a .number) 20 e)
-    go false _ false _ false _ = refl
+    go : Dec (a .number ≡ 18) → Dec (a .number ≡ 19) → Dec (a .number ≡ 20) → eqb (coarser start a .number) 0 ≡ eqb (a .number) 0
+    go (yes e) _ _ = rw e
+    go (no _) (yes e) _ = rw e
+    go (no _) (no _) (yes e) = rw e
+    go (no d) (no e) (no f) = rw (ne-eqb (a .number) 18 d, ne-eqb (a .number) 19 e, ne-eqb (a .number) 20 f)
 
 accepted-alike : (start : ℕ) (a : Said) → a .number ≡ 0 → coarser start a ≡ a
 accepted-alike start a e = rw e

@@ -35,8 +35,8 @@ module _ (body : List ℕ) where
   to-fits : isShaped01 body ≡ true → Fits body
   unfolding isShaped01
   to-fits e =
-      let parts = both-parts (eqb (getD body 0 0) 58) _ e in
-      let more = both-parts (upto (length (drop 1 body)) (λ k. isDigit (getD (drop 1 body) k 0))) _ (parts .1) in
+      let parts = both-parts _ _ e in
+      let more = both-parts _ _ (parts .1) in
       record {
         clean = each-belongs body (fit (parts .0) (more .0));
         size = eqb-true (length body) (1 + 2 * (5 + byteAt body 1)) (more .1);
