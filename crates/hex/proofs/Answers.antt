@@ -23,7 +23,7 @@ use Rattle.laws.proofs.Said.{number-of, said-by}
 use Rattle.hex.specs.Lines.{bodyOf}
 use Rattle.hex.specs.Records.{hasBad, records, isShaped, lengthOf, addressOf, typeOf, sumOf, isEnd, freshIn, faultOf, byteIn, gives, dataAt}
 use Rattle.hex.specs.Reading.{said, faultSaid, verdict}
-use Rattle.hex.specs.Steps.{Collected, Parsed, isFresh, storedAt, recordAt, nextAt, lineAt, endedBy}
+use Rattle.hex.specs.Steps.{Collected, Parsed, Stored, recordAt, nextAt, lineAt, endedBy}
 use Rattle.hex.specs.declared.Line.{Line}
 use Rattle.hex.specs.declared.Line.the-variants.{Shaped, Unshaped}
 use Rattle.hex.specs.declared.Outcome.{Outcome}
@@ -182,7 +182,8 @@ module _ {text : List ℕ} {at count : ℕ} {scratch bytes : List ℕ} {sum next
         met-past : 8192 < 256 * getD bytes 1 0 + getD bytes 2 0 + getD bytes 0 0 → refused 10 at ≡ verdict text
         met-past h = fault-is 10 (omega arith) (fault-past _ _ some summed no-end typed-data (omega (arith, byte 0 (omega arith), address-is)))
 
-        module _ (fits : 256 * getD bytes 1 0 + getD bytes 2 0 + getD bytes 0 0 ≤ 8192) where
+        module _ (fits : 256 * getD bytes 1 0 + getD bytes 2 0 + getD bytes 0 0 ≤ 8192) {after : List ℕ} {fresh : Bool}
+            (stored : Stored bytes (getD bytes 0 0) (256 * getD bytes 1 0 + getD bytes 2 0) scratch after fresh) where
           ends-within : addressOf (recordAt text at) + lengthOf (recordAt text at) ≤ 8192
           ends-within = omega (arith, byte 0 (omega arith), address-is)
 
@@ -193,22 +194,21 @@ module _ {text : List ℕ} {at count : ℕ} {scratch bytes : List ℕ} {sum next
           unfolding found
           found-is = fresh-here text at count scratch before more shaped bytes (met .front) _ _ (byte 0 (omega arith)) address-is fits
 
-          met-twice : isFresh scratch (256 * getD bytes 1 0 + getD bytes 2 0) (getD bytes 0 0) ≡ false → refused 11 at ≡ verdict text
+          met-twice : fresh ≡ false → refused 11 at ≡ verdict text
           unfolding found
           met-twice e =
-              let other = eqb-false found (getD bytes 0 0) e in
+              let other = eqb-false found (getD bytes 0 0) (sym (stored .tells) ∙ e) in
               let most = first-most (getD bytes 0 0) (λ i. ltb (getD scratch (256 * getD bytes 1 0 + getD bytes 2 0 + i) 0) 256) in
               fault-is 11 (omega arith)
               (fault-twice _ _ some summed no-end typed-data ends-within
               (rw (← found-is, ← byte 0 (omega arith)) (omega arith)))
 
-          met-passed : {after : List ℕ} → isFresh scratch (256 * getD bytes 1 0 + getD bytes 2 0) (getD bytes 0 0) ≡ true
-              → after ≡ tabulate 8192 (storedAt bytes (256 * getD bytes 1 0 + getD bytes 2 0) (getD bytes 0 0) scratch) → Passed text next (count + getD bytes 0 0) after
+          met-passed : fresh ≡ true → Passed text next (count + getD bytes 0 0) after
           unfolding found
-          met-passed e stored =
+          met-passed e =
               let all : lengthOf (recordAt text at) ≤ freshIn (take (before .k) (records text)) (recordAt text at) =
-              omega (arith, eqb-true found (getD bytes 0 0) e, found-is, byte 0 (omega arith)) in
-              rw (stored, next-is)
+              omega (arith, eqb-true found (getD bytes 0 0) (sym (stored .tells) ∙ e), found-is, byte 0 (omega arith)) in
+              rw (stored .stored e, next-is)
               (passed-more text at count scratch before more shaped bytes (met .front) _ _ (byte 0 (omega arith)) address-is fits no-end
               (fault-none _ _ some summed no-end typed-data ends-within all) all)
 
@@ -242,12 +242,13 @@ module _ {text : List ℕ} {at count : ℕ} {scratch bytes : List ℕ} {sum next
     pub said-past : (sum ≡ 0) × (kind ≡ 1 → ⊥) × (kind ≡ 0) × (8192 < address + n) → refused 10 at ≡ verdict text
     said-past (z, k, d, h) = met-past z k d (omega (arith, reads))
 
-    module _ (tested : (sum ≡ 0) × (kind ≡ 1 → ⊥) × (kind ≡ 0) × (address + n ≤ 8192)) where
+    module _ {after : List ℕ} {fresh : Bool} (stored : Stored bytes n address scratch after fresh)
+        (tested : (sum ≡ 0) × (kind ≡ 1 → ⊥) × (kind ≡ 0) × (address + n ≤ 8192)) where
       fits : addressOf bytes + n ≤ 8192
       fits = omega (arith, reads, tested)
 
-      pub said-twice : isFresh scratch address n ≡ false → refused 11 at ≡ verdict text
-      said-twice e = met-twice (tested .0) (tested .1) (tested .2) fits (rw reads at e)
+      pub said-twice : fresh ≡ false → refused 11 at ≡ verdict text
+      said-twice e = met-twice (tested .0) (tested .1) (tested .2) fits (rw reads at stored) e
 
-      pub said-passed : {after : List ℕ} → isFresh scratch address n ≡ true → after ≡ tabulate 8192 (storedAt bytes address n scratch) → Passed text next (count + n) after
-      said-passed e stored = met-passed (tested .0) (tested .1) (tested .2) fits (rw reads at e) (rw reads at stored)
+      pub said-passed : fresh ≡ true → Passed text next (count + n) after
+      said-passed e = met-passed (tested .0) (tested .1) (tested .2) fits (rw reads at stored) e

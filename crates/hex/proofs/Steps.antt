@@ -3,7 +3,6 @@
 use mathlib.Core.Path.{_≡_, refl, sym, _∙_, ap}
 use mathlib.Core.Bool.{Bool, true, false, false≢true}
 use mathlib.Core.List.{List, _∷_}
-use mathlib.Core.Logic.{⊎-elim}
 use Prim.Native.Nat.{ℕ, suc, _+_, _*_, _%_, _<_, _≤_}
 use native.Mathlib.Nat.{mod-add-mod, add-zero, add-assoc}
 use native.Mathlib.Decide.{ℕ-discrete, decLt}
@@ -11,23 +10,22 @@ use native.Mathlib.Omega.{arith}
 use mir.Syntax.{w8}
 use borrow.Table.Referent.{fInt}
 use borrow.Rule.Slice.Know.{Fit}
-use lib.Dec.{leb, eqb, ltb}
+use lib.Dec.{eqb, ltb}
 use lib.ListN.{length, getD, set, take, drop, length-drop, length-set, drop-of-length-le}
 use lib.Seq.{drop-cons, getD-drop, getD-take, take-at, length-take-le, getD-set-same, getD-set-other}
 use borrow.Author.Count.{below-more}
-use borrow.Author.Tests.{eq-eqb, ne-eqb, lt-ltb, le-ltb, lt-leb, le-leb, ltb-true}
+use borrow.Author.Tests.{eq-eqb, ne-eqb, lt-ltb, le-ltb, ltb-true}
 use Rattle.laws.specs.Pick.{pick, both}
 use Rattle.laws.specs.Lists.{tabulate, firstOf}
 use Rattle.laws.specs.Placing.{patched}
 use Rattle.laws.specs.Sums.{sumAll}
 use Rattle.laws.proofs.Both.{both-parts, none-left, none-right}
 use Rattle.laws.proofs.Lists.{getD-tabulate, length-tabulate, Filled, filled-none, filled-more, filled-all, is-tabulate, first-none, first-before}
-use Rattle.laws.proofs.Scan.{split}
 use Rattle.laws.proofs.Patched.{patched-none, patched-here, patched-other, patched-out}
 use Rattle.laws.proofs.Sums.{sum-tabulate}
 use Rattle.hex.specs.Digits.{digit, byteAt, bytesFrom}
 use Rattle.hex.specs.Lines.{atEnd}
-use Rattle.hex.specs.Steps.{Decoded, digitTable, spelledAt, allDigits, sumFrom, endedBy, pastEnd, endLength, storedAt, isFresh}
+use Rattle.hex.specs.Steps.{Decoded, Stored, digitTable, spelledAt, allDigits, sumFrom, endedBy, pastEnd, endLength, storedAt, isFresh}
 use Rattle.hex.specs.declared.Outcome.the-variants.{Done, BadType, BadEnd}
 use Rattle.hex.proofs.Shape.{digits-at, digits-all}
 
@@ -256,42 +254,42 @@ module _ (bytes : List ℕ) (address i : ℕ) (scratch : List ℕ) where
   unfolding storedAt
   stored-past a h = patched-out address (λ k. getD bytes (4 + k) 0) i a (getD scratch a 0) h
 
--- i bytes stored
-pub record Storing (bytes : List ℕ) (address : ℕ) (scratch₀ : List ℕ) (i : ℕ) (scratch : List ℕ) : Type 0 where
+-- i bytes stored, and whether none of them was given before
+pub record Storing (bytes : List ℕ) (address : ℕ) (scratch₀ : List ℕ) (i : ℕ) (scratch : List ℕ) (fresh : Bool) : Type 0 where
   pub size : length scratch ≡ length scratch₀
+  pub tells : fresh ≡ isFresh scratch₀ address i
   pub held : (a : ℕ) → getD scratch a 0 ≡ storedAt bytes address i scratch₀ a
 
 module _ (bytes : List ℕ) (address : ℕ) (scratch₀ : List ℕ) where
-  pub storing-none : Storing bytes address scratch₀ 0 scratch₀
-  storing-none = record { size = refl; held = stored-none bytes address 0 scratch₀ }
+  pub storing-none : Storing bytes address scratch₀ 0 scratch₀ true
+  unfolding firstOf
+  storing-none = record { size = refl; tells = refl; held = stored-none bytes address 0 scratch₀ }
 
-  module _ {i : ℕ} {scratch : List ℕ} (so-far : Storing bytes address scratch₀ i scratch) where
-    pub storing-more : (v : ℕ) → address + i < length scratch₀ → v ≡ getD bytes (4 + i) 0 → Storing bytes address scratch₀ (i + 1) (set scratch (address + i) v)
-    storing-more v h e =
+  module _ {i : ℕ} {scratch : List ℕ} {fresh : Bool} (so-far : Storing bytes address scratch₀ i scratch fresh) where
+    given : ℕ → Bool
+    given k = ltb (getD scratch₀ (address + k) 0) 256
+
+    pub storing-more : (v : ℕ) (fresh′ : Bool) → address + i < length scratch₀ → v ≡ getD bytes (4 + i) 0
+        → fresh′ ≡ pick (ltb (getD scratch (address + i) 0) 256) false fresh → Storing bytes address scratch₀ (i + 1) (set scratch (address + i) v) fresh′
+    unfolding given
+    storing-more v fresh′ h e came =
         record {
           size = length-set scratch (address + i) v ∙ so-far .size;
+          tells = came ∙ ap (λ b. pick b false fresh) here ∙ go (given i) refl;
           held = stored-more bytes address i scratch₀ scratch v (omega (arith, so-far .size)) e (so-far .held);
         }
+      where
+        here : ltb (getD scratch (address + i) 0) 256 ≡ given i
+        here = ap (λ x. ltb x 256) (so-far .held (address + i) ∙ stored-past bytes address i scratch₀ (address + i) (omega arith))
 
-    pub storing-all : (n : ℕ) → i ≡ n → length scratch₀ ≡ 8192 → scratch ≡ tabulate 8192 (storedAt bytes address n scratch₀)
+        go : (b : Bool) → given i ≡ b → pick (given i) false fresh ≡ isFresh scratch₀ address (i + 1)
+        go true d = rw d (none-ends i given d)
+        go false d = rw d (so-far .tells ∙ none-more i given d)
+
+    pub storing-all : (n : ℕ) → i ≡ n → length scratch₀ ≡ 8192 → Stored bytes n address scratch₀ scratch fresh
     storing-all n e whole =
-        is-tabulate 0 8192 (storedAt bytes address n scratch₀) scratch (so-far .size ∙ whole)
-        (λ k h. so-far .held k ∙ ap (λ m. storedAt bytes address m scratch₀ k) e)
-
--- the least of the scratch's first i numbers, or 256, tells whether one is given
-module _ (scratch : List ℕ) (address i least : ℕ) (so-far : leb 256 least ≡ isFresh scratch address i) where
-  given-ends : getD scratch (address + i) 0 < 256 → false ≡ isFresh scratch address (i + 1)
-  given-ends h = none-ends i (λ k. ltb (getD scratch (address + k) 0) 256) (lt-ltb (getD scratch (address + i) 0) 256 h)
-
-  fresh-goes : 256 ≤ getD scratch (address + i) 0 → leb 256 least ≡ isFresh scratch address (i + 1)
-  fresh-goes h = so-far ∙ none-more i (λ k. ltb (getD scratch (address + k) 0) 256) (le-ltb (getD scratch (address + i) 0) 256 h)
-
-  pub fresh-less : getD scratch (address + i) 0 < least → leb 256 (getD scratch (address + i) 0) ≡ isFresh scratch address (i + 1)
-  fresh-less h =
-      ⊎-elim (λ (g : 256 ≤ getD scratch (address + i) 0). le-leb 256 (getD scratch (address + i) 0) g ∙ sym (le-leb 256 least (omega arith)) ∙ fresh-goes g)
-      (λ (g : getD scratch (address + i) 0 < 256). lt-leb 256 (getD scratch (address + i) 0) g ∙ given-ends g) (split 256 (getD scratch (address + i) 0))
-
-  pub fresh-kept : least ≤ getD scratch (address + i) 0 → leb 256 least ≡ isFresh scratch address (i + 1)
-  fresh-kept h =
-      ⊎-elim (λ (g : 256 ≤ getD scratch (address + i) 0). fresh-goes g)
-      (λ (g : getD scratch (address + i) 0 < 256). lt-leb 256 least (omega arith) ∙ given-ends g) (split 256 (getD scratch (address + i) 0))
+        record {
+          tells = so-far .tells ∙ ap (isFresh scratch₀ address) e;
+          stored = λ t. is-tabulate 0 8192 (storedAt bytes address n scratch₀) scratch (so-far .size ∙ whole)
+              (λ k h. so-far .held k ∙ ap (λ m. storedAt bytes address m scratch₀ k) e);
+        }

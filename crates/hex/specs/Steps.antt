@@ -74,10 +74,6 @@ notGiven = 256
 unfoldable pub unfilled : List ℕ
 unfilled = replicate imageBytes notGiven
 
--- whether none of n bytes from an address on is given
-abbrev pub isFresh : List ℕ → ℕ → ℕ → Bool
-isFresh scratch address n = eqb (firstOf n (λ i. ltb (getD scratch (address + i) 0) notGiven)) n
-
 -- the scratch with n bytes, data after a record's first four, stored at an address
 unfoldable pub storedAt : List ℕ → ℕ → ℕ → List ℕ → ℕ → ℕ
 storedAt bytes address n scratch a = patched address n (λ i. getD bytes (4 + i) 0) a (getD scratch a 0)
@@ -129,3 +125,11 @@ pub record ToStore (bytes : List ℕ) (n address : ℕ) (scratch : List ℕ) : T
   pub held : 4 + n ≤ length bytes
   pub fits : address + n ≤ imageBytes
   pub whole : length scratch ≡ imageBytes
+
+-- whether none of n bytes from an address on is given
+abbrev pub isFresh : List ℕ → ℕ → ℕ → Bool
+isFresh scratch address n = eqb (firstOf n (λ i. ltb (getD scratch (address + i) 0) notGiven)) n
+
+pub record Stored (bytes : List ℕ) (n address : ℕ) (before after : List ℕ) (fresh : Bool) : Type 0 where
+  pub tells : fresh ≡ isFresh before address n
+  pub stored : fresh ≡ true → after ≡ tabulate imageBytes (storedAt bytes address n before)

@@ -1,6 +1,6 @@
 // Intel's hexadecimal object format, types 00 and 01: the reader of a character image.
 ghost use mathlib.Core.Path.{_≡_};
-ghost use Prim.Native.Nat.{_+_, _≤_};
+ghost use Prim.Native.Nat.{_≤_};
 ghost use mathlib.Core.List.{_++_};
 ghost use lib.ListN.{length, getD, drop};
 ghost use Rattle.laws.specs.Lists.{tabulate};
@@ -8,7 +8,7 @@ ghost use Rattle.image.specs.Image.{imageBytes};
 ghost use Rattle.hex.specs.Records.{belongs as Records·belongs, addressOf};
 ghost use Rattle.hex.specs.Lines.{bodyOf};
 ghost use Rattle.hex.specs.Reading.{mostText, faultSaid, answerOf, leftOf, said};
-ghost use Rattle.hex.specs.Steps.{ToCollect, Collected, ToParse, Parsed, ToSearch, digitTable, ToDecode, Decoded, ToSpell, spelledAt, endedBy, isFresh, ToStore, storedAt, pastEnd, byteOf};
+ghost use Rattle.hex.specs.Steps.{ToCollect, Collected, ToParse, Parsed, ToSearch, digitTable, ToDecode, Decoded, ToSpell, spelledAt, endedBy, ToStore, Stored, pastEnd, byteOf};
 
 mod digits;
 
@@ -111,12 +111,12 @@ fn collect(digits: &[u8], text: &[u8], bytes: &mut [u8], scratch: &mut [u16]) ->
         if image::IMAGE_BYTES < address + n {
             return Outcome::PastEnd(place);
         }
-        if !is_fresh(scratch, address, n) {
+        if store(bytes, n, address, scratch) {
+            count += n as u32;
+            at = next;
+        } else {
             return Outcome::GivenTwice(place);
         }
-        store(bytes, n, address, scratch);
-        count += n as u32;
-        at = next;
     }
     let end = at as u32;
     Outcome::BadEnd(end)
@@ -276,33 +276,22 @@ fn past_end(text: &[u8], place: usize) -> usize
     0
 }
 
-// Whether none of n bytes of the scratch from an address on is given: the least of them decides, so that nothing but the length ends the loop.
-fn is_fresh(scratch: &[u16], address: usize, n: usize) -> bool
-    requires { ⌜ address + n ≤ length (now scratch) ⌝ }
-    ensures { λ r. ⌜ r ≡ isFresh (now (scratch .entry)) address n ⌝ }
-{
-    let mut least = NOT_GIVEN;
-    let mut i = 0usize;
-    while i < n {
-        let held = scratch[address + i];
-        if held < least {
-            least = held;
-        }
-        i += 1;
-    }
-    NOT_GIVEN <= least
-}
-
-// The data of a record into the scratch.
-fn store(bytes: &[u8], n: usize, address: usize, scratch: &mut [u16])
+// The data of a record into the scratch, and whether none of its bytes was there already: each is written all the same, so that
+// nothing but the length ends the loop.
+fn store(bytes: &[u8], n: usize, address: usize, scratch: &mut [u16]) -> bool
     requires { ⌜ ToStore (now bytes) n address (now scratch) ⌝ }
-    ensures { λ _. ⌜ now (scratch .exit) ≡ tabulate imageBytes (storedAt (now (bytes .entry)) address n (now (scratch .entry))) ⌝ }
+    ensures { λ r. ⌜ Stored (now (bytes .entry)) n address (now (scratch .entry)) (now (scratch .exit)) r ⌝ }
 {
+    let mut fresh = true;
     let mut i = 0usize;
     while i < n {
+        if scratch[address + i] < NOT_GIVEN {
+            fresh = false;
+        }
         scratch[address + i] = bytes[4 + i] as u16;
         i += 1;
     }
+    fresh
 }
 
 // The scratch as bytes, into the first 8,192 bytes lent.

@@ -3,7 +3,6 @@
 use Rattle.hex.proofs.Passed.{passed-none, unfilled-length}
 use Rattle.hex.proofs.Answers.{Turn, bytes-fit, refused-by, over, meets, meets-none, met-next, met-sum, said-ended, said-type, said-past, said-twice, said-passed}
 use borrow.Author.Needs.{needs}
-use Rattle.laws.proofs.Tests.{test-holds, test-fails}
 use native.Mathlib.Omega.{arith}
 use lib.ListN.{length}
 use mathlib.Core.Path.{refl, ap}
@@ -151,27 +150,6 @@ returns-5 c =
     let reads = (let e : tie.After-address-of Inv-loop μ-loop = search in e .address-of .ensures) in
     refused-by (said-past met reads (omega arith)) (omega arith)
 
-is-fresh-requires : tie.Need-is-fresh-requires Inv-loop μ-loop
-is-fresh-requires c κs =
-    let pre = (let s : tie.Start Inv-loop μ-loop = search in s .pre) in
-    omega (arith, ap length (pre .empty), unfilled-length)
-
-same-length-11 : tie.Need-same-length-11 Inv-loop μ-loop
-same-length-11 c = omega arith
-
-same-length-12 : tie.Need-same-length-12 Inv-loop μ-loop
-same-length-12 c = omega arith
-
-returns-6 : tie.Need-returns-6 Inv-loop μ-loop
-returns-6 c =
-    let met =
-    (let l : tie.After-sum Inv-loop μ-loop = search in
-    let p : tie.After-parse Inv-loop μ-loop = search in
-    let i : tie.In-loop Inv-loop μ-loop = search in
-    meets (i .before .loop .inv .passed) (i .loop-test .taken) (p .parse .ensures) (l .sum .given .1)) in
-    let reads = (let e : tie.After-address-of Inv-loop μ-loop = search in e .address-of .ensures) in
-    refused-by (said-twice met reads (omega arith) (search test-fails)) (omega arith)
-
 store-requires : tie.Need-store-requires Inv-loop μ-loop
 store-requires c κs =
     let pre = (let s : tie.Start Inv-loop μ-loop = search in s .pre) in
@@ -203,7 +181,24 @@ loop-again c =
     meets (i .before .loop .inv .passed) (i .loop-test .taken) (p .parse .ensures) (l .sum .given .1)) in
     let reads = (let e : tie.After-address-of Inv-loop μ-loop = search in e .address-of .ensures) in
     let stored = (let k : tie.After-store Inv-loop μ-loop = search in k .store .ensures) in
-    record { passed = said-passed met reads (omega arith) (search test-holds) stored; room = omega arith; whole = omega arith }
+    record { passed = said-passed met reads stored (omega arith) (search); room = omega arith; whole = omega arith }
+
+same-length-11 : tie.Need-same-length-11 Inv-loop μ-loop
+same-length-11 c = omega arith
+
+same-length-12 : tie.Need-same-length-12 Inv-loop μ-loop
+same-length-12 c = omega arith
+
+returns-6 : tie.Need-returns-6 Inv-loop μ-loop
+returns-6 c =
+    let met =
+    (let l : tie.After-sum Inv-loop μ-loop = search in
+    let p : tie.After-parse Inv-loop μ-loop = search in
+    let i : tie.In-loop Inv-loop μ-loop = search in
+    meets (i .before .loop .inv .passed) (i .loop-test .taken) (p .parse .ensures) (l .sum .given .1)) in
+    let reads = (let e : tie.After-address-of Inv-loop μ-loop = search in e .address-of .ensures) in
+    let stored = (let k : tie.After-store Inv-loop μ-loop = search in k .store .ensures) in
+    refused-by (said-twice met reads stored (omega arith) (search)) (omega arith)
 
 cast-end : tie.Need-cast-end Inv-loop μ-loop
 cast-end c = omega arith
@@ -253,15 +248,14 @@ collect-spec =
     same-length-9
     same-length-10
     returns-5
-    is-fresh-requires
-    same-length-11
-    same-length-12
-    returns-6
     store-requires
     cast-count
     add-count
     loop-less
     loop-again
+    same-length-11
+    same-length-12
+    returns-6
     cast-end
     same-length-13
     same-length-14
