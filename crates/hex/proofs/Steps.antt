@@ -10,6 +10,7 @@ use native.Mathlib.Omega.{arith}
 use mir.Syntax.{w8}
 use borrow.Table.Referent.{fInt}
 use borrow.Rule.Slice.Know.{Fit}
+use lib.Bits.{bitOr, or-lt}
 use lib.Dec.{eqb, ltb}
 use lib.ListN.{length, getD, set, take, drop, length-drop, length-set, drop-of-length-le}
 use lib.Seq.{drop-cons, getD-drop, getD-take, take-at, length-take-le, getD-set-same, getD-set-other}
@@ -21,6 +22,7 @@ use Rattle.laws.specs.Placing.{patched}
 use Rattle.laws.specs.Sums.{sumAll}
 use Rattle.laws.proofs.Both.{both-parts, none-left, none-right}
 use Rattle.laws.proofs.Lists.{getD-tabulate, length-tabulate, Filled, filled-none, filled-more, filled-all, is-tabulate, first-none, first-before}
+use Rattle.laws.proofs.Scan.{or-above}
 use Rattle.laws.proofs.Patched.{patched-none, patched-here, patched-other, patched-out}
 use Rattle.laws.proofs.Sums.{sum-tabulate}
 use Rattle.hex.specs.Digits.{digit, byteAt, bytesFrom}
@@ -185,12 +187,12 @@ pub record Decoding (text : List ℕ) (from : ℕ) (bytes₀ : List ℕ) (i : �
   pub digits : (k : ℕ) → k < 2 * i → digit (getD text (from + k) 0) < 16
 
 module _ (text : List ℕ) (from : ℕ) (bytes₀ : List ℕ) where
-  pub decoding-none : Decoding text from bytes₀ 0 bytes₀ 0
+  decoding-none : Decoding text from bytes₀ 0 bytes₀ 0
   unfolding sumAll tabulate
   decoding-none = record { filled = filled-none _ bytes₀; summed = refl; digits = λ k h. absurd (omega arith) }
 
   module _ {i : ℕ} {bytes : List ℕ} {sum : ℕ} (so-far : Decoding text from bytes₀ i bytes sum) where
-    pub decoding-more : (byte sum′ : ℕ) → i < length bytes₀ → byte ≡ spelledAt text (from + 2 * i) → byte < 256 → sum′ ≡ (sum + byte) % 256
+    decoding-more : (byte sum′ : ℕ) → i < length bytes₀ → byte ≡ spelledAt text (from + 2 * i) → byte < 256 → sum′ ≡ (sum + byte) % 256
         → Decoding text from bytes₀ (i + 1) (set bytes i byte) sum′
     decoding-more byte sum′ h e small added =
         let (high, low) = spelled-digits text (from + 2 * i) (omega arith) in
@@ -201,7 +203,7 @@ module _ (text : List ℕ) (from : ℕ) (bytes₀ : List ℕ) where
           digits = digits-more text from i (so-far .digits) high low;
         }
 
-    pub decoding-all : (n : ℕ) → i ≡ n → from + 2 * n ≤ length text → n ≤ length bytes₀ → Decoded text from n bytes sum
+    decoding-all : (n : ℕ) → i ≡ n → from + 2 * n ≤ length text → n ≤ length bytes₀ → Decoded text from n bytes sum
     decoding-all n e reaches room =
         record {
           summed =
@@ -209,10 +211,43 @@ module _ (text : List ℕ) (from : ℕ) (bytes₀ : List ℕ) where
           front = λ h. ap (take n) (filled-all _ n i bytes bytes₀ e room (so-far .filled)) ∙ take-at _ _ n (length-tabulate n _);
         }
 
--- two of their digits spell no byte
-pub decoded-none : (text : List ℕ) (from n : ℕ) (bytes : List ℕ) (i : ℕ) → from + 2 * n ≤ length text → i < n → 255 < spelledAt text (from + 2 * i)
-    → Decoded text from n bytes 256
-decoded-none text from n bytes i reaches h bad = record { summed = sym (sum-none text from n reaches i h bad); front = λ g. absurd (omega arith) }
+-- i bytes read, digits or not: the bits of all values tell, as what is no digit has a value above 15
+pub record Spelling (text : List ℕ) (from n : ℕ) (bytes₀ : List ℕ) (i : ℕ) (bytes : List ℕ) (sum all : ℕ) : Type 0 where
+  pub size : length bytes ≡ length bytes₀
+  pub small : sum < 256
+  pub good : all ≤ 15 → Decoding text from bytes₀ i bytes sum
+  pub bad : 15 < all → sumFrom text from n ≡ 256
+
+module _ (text : List ℕ) (from n : ℕ) (bytes₀ : List ℕ) (reaches : from + 2 * n ≤ length text) where
+  pub spelling-none : Spelling text from n bytes₀ 0 bytes₀ 0 0
+  spelling-none = record { size = refl; small = omega arith; good = λ h. decoding-none text from bytes₀; bad = λ h. absurd (omega arith) }
+
+  module _ {i : ℕ} {bytes : List ℕ} {sum all : ℕ} (so-far : Spelling text from n bytes₀ i bytes sum all) where
+    pub spelling-more : (high low byte sum′ : ℕ) → i < n → i < length bytes₀ → high ≡ digit (getD text (from + 2 * i) 0) → low ≡ digit (getD text (from + 2 * i + 1) 0)
+        → byte ≡ 16 * (high % 16) + low % 16 → sum′ ≡ (sum + byte) % 256 → Spelling text from n bytes₀ (i + 1) (set bytes i byte) sum′ (bitOr all (bitOr high low))
+    spelling-more high low byte sum′ h room is-high is-low is added =
+        record {
+          size = length-set bytes i byte ∙ so-far .size;
+          small = omega arith;
+          good = λ g.
+              let parts = or-above all (bitOr high low) 15 g in
+              let both = or-above high low 15 (parts .1) in
+              let spelled = spelled-byte text (from + 2 * i) (omega (arith, both)) (omega (arith, both)) in
+              decoding-more text from bytes₀ (so-far .good (parts .0)) byte sum′ room (omega (arith, both, spelled)) (omega (arith, both)) added;
+          bad = λ g. go (decLt 15 all) (decLt 15 high) (decLt 15 low) g;
+        }
+      where
+        go : Dec (15 < all) → Dec (15 < high) → Dec (15 < low) → 15 < bitOr all (bitOr high low) → sumFrom text from n ≡ 256
+        go (yes a) b c g = so-far .bad a
+        go (no a) (yes b) c g = sum-none text from n reaches i h (omega (arith, spelled-high text (from + 2 * i) (omega arith)))
+        go (no a) (no b) (yes c) g = sum-none text from n reaches i h (omega (arith, spelled-low text (from + 2 * i) (omega arith)))
+        go (no a) (no b) (no c) g = absurd (omega (arith, or-lt 4 all (bitOr high low) (omega arith) (or-lt 4 high low (omega arith) (omega arith))))
+
+    pub spelling-bad : 15 < all → Decoded text from n bytes 256
+    spelling-bad h = record { summed = sym (so-far .bad h); front = λ g. absurd (omega arith) }
+
+    pub spelling-all : all ≤ 15 → i ≡ n → n ≤ length bytes₀ → Decoded text from n bytes sum
+    spelling-all h e room = decoding-all text from bytes₀ (so-far .good h) n e reaches room
 
 -- whether none of i + 1 numbers passes a test: not where the last does, and else as for those before it
 module _ (i : ℕ) (test : ℕ → Bool) where

@@ -217,22 +217,27 @@ fn belongs(digits: &[u8], place: usize, c: u8) -> bool
     digits[c as usize] < 16
 }
 
-// n bytes of two digits each, from a place on: into bytes, with their eight-bit sum, carries dropped; or 256 where one is no digit.
+// n bytes of two digits each, from a place on: into bytes, with their eight-bit sum, carries dropped; or 256 where one is no digit, which the bits of
+// all values together tell at the end, so that nothing but the length ends the loop.
 fn decode(digits: &[u8], text: &[u8], from: usize, n: usize, bytes: &mut [u8]) -> u16
     requires { ⌜ ToDecode (now digits) (now text) from n (now bytes) ⌝ }
     ensures { λ r. ⌜ Decoded (now (text .entry)) from n (now (bytes .exit)) r ⌝ }
 {
     let mut sum = 0u8;
+    let mut all = 0u8;
     let mut i = 0usize;
     while i < n {
-        let spelled = byte_at(digits, text, from + 2 * i);
-        if 255 < spelled {
-            return 256;
-        }
-        let byte = spelled as u8;
+        let place = from + 2 * i;
+        let high = digits[text[place] as usize];
+        let low = digits[text[place + 1] as usize];
+        all = all | (high | low);
+        let byte = 16 * (high % 16) + low % 16;
         sum = std::num::wrapping_add_u8(sum, byte);
         bytes[i] = byte;
         i += 1;
+    }
+    if 15 < all {
+        return 256;
     }
     sum as u16
 }
