@@ -223,18 +223,19 @@ module _ (text : List ℕ) (from n : ℕ) (bytes₀ : List ℕ) (reaches : from 
   spelling-none = record { size = refl; small = omega arith; good = λ h. decoding-none text from bytes₀; bad = λ h. absurd (omega arith) }
 
   module _ {i : ℕ} {bytes : List ℕ} {sum all : ℕ} (so-far : Spelling text from n bytes₀ i bytes sum all) where
-    pub spelling-more : (high low byte sum′ : ℕ) → i < n → i < length bytes₀ → high ≡ digit (getD text (from + 2 * i) 0) → low ≡ digit (getD text (from + 2 * i + 1) 0)
-        → byte ≡ 16 * (high % 16) + low % 16 → sum′ ≡ (sum + byte) % 256 → Spelling text from n bytes₀ (i + 1) (set bytes i byte) sum′ (bitOr all (bitOr high low))
-    spelling-more high low byte sum′ h room is-high is-low is added =
+    pub spelling-more : (high low byte sum′ all′ : ℕ) → i < n → i < length bytes₀ → high ≡ digit (getD text (from + 2 * i) 0) → low ≡ digit (getD text (from + 2 * i + 1) 0)
+        → byte ≡ 16 * (high % 16) + low % 16 → sum′ ≡ (sum + byte) % 256 → all′ ≡ bitOr all (bitOr high low)
+        → Spelling text from n bytes₀ (i + 1) (set bytes i byte) sum′ all′
+    spelling-more high low byte sum′ all′ h room is-high is-low is added joined =
         record {
           size = length-set bytes i byte ∙ so-far .size;
           small = omega arith;
           good = λ g.
-              let parts = or-above all (bitOr high low) 15 g in
+              let parts = or-above all (bitOr high low) 15 (omega (arith, joined)) in
               let both = or-above high low 15 (parts .1) in
               let spelled = spelled-byte text (from + 2 * i) (omega (arith, both)) (omega (arith, both)) in
               decoding-more text from bytes₀ (so-far .good (parts .0)) byte sum′ room (omega (arith, both, spelled)) (omega (arith, both)) added;
-          bad = λ g. go (decLt 15 all) (decLt 15 high) (decLt 15 low) g;
+          bad = λ g. go (decLt 15 all) (decLt 15 high) (decLt 15 low) (omega (arith, joined));
         }
       where
         go : Dec (15 < all) → Dec (15 < high) → Dec (15 < low) → 15 < bitOr all (bitOr high low) → sumFrom text from n ≡ 256

@@ -7,6 +7,7 @@ use borrow.Author.Needs.{needs}
 use Rattle.hex.proofs.Steps.{table-tells, table-holds, Spelling, spelling-none, spelling-more, spelling-bad, spelling-all}
 use native.Mathlib.Omega.{arith}
 use Prim.Native.Nat.{_≤_, _-_, _+_, _*_}
+use mathlib.Core.Path.{refl}
 use Rattle.hex.proofs.decode.Statement.{statement}
 use Rattle.hex.proofs.decode.Tie as tie
 
@@ -87,7 +88,7 @@ loop-again c =
     let turn = (let h : tie.At-loop Inv-loop μ-loop = search in h .loop) in
     let fits : Fit (fInt w8) 0 (a .text .now) = search in
     let tells = table-tells (a .digits .now) (a .text .now) (pre .table) fits in
-    (omega arith, spelling-more _ _ _ _ (pre .reaches) (turn .inv .1) _ _ _ _ (omega arith) (omega arith) (tells (a .from + 2 * turn .i)) (tells (a .from + 2 * turn .i + 1)) (omega arith) (omega arith))
+    (omega arith, spelling-more _ _ _ _ (pre .reaches) (turn .inv .1) _ _ _ _ _ (omega arith) (omega arith) (tells (a .from + 2 * turn .i)) (tells (a .from + 2 * turn .i + 1)) (omega arith) (omega arith) refl)
 
 same-length : tie.Need-same-length Inv-loop μ-loop
 same-length c = omega arith
