@@ -1,38 +1,35 @@
--- The clocks that a fine half adds, from a test that antt computes: which sub-periods each fine bit serves, by a remainder, as the code finds them.
+-- Which fine bit serves a sub-period, read from a count of trailing zeros at any width: a law of numbers, and the account's `added` by it.
 -- Assumes nothing.
-use Prim.Native.Nat.{ℕ, suc, _-_, _%_, _^_, _<_}
+use Prim.Native.Nat.{ℕ, zero, suc, _-_, _/_, _%_, _^_, _<_, _≤_, suc-le-suc}
 use mathlib.Core.Path.{_≡_, refl, sym, ap, _∙_}
-use mathlib.Core.Bool.{Bool, true}
+use mathlib.Core.Bool.{Bool}
+use native.Mathlib.Nat.{not-suc-le-zero, pow-suc}
 use native.Mathlib.Omega.{arith}
-use lib.Dec.{ltb, eqb}
-use lib.Count.{trailingZeros}
-use borrow.Author.Tests.{eq-eqb, ne-eqb, eqb-true, ltb-true}
-use Rattle.laws.specs.Pick.{pick, both}
-use Rattle.laws.proofs.Both.{both-parts}
-use Rattle.laws.specs.Lists.{upto}
-use Rattle.laws.proofs.Tests.{upto-at}
+use lib.Count.{trailingZeros, under}
+use borrow.Author.Tests.{eq-eqb, ne-eqb}
+use Rattle.laws.specs.Pick.{pick}
 use Rattle.wave.specs.Wave.{subPeriods, added, bit}
 
--- Sub-period n ends in z zero bits where its remainder by the next power of two is 2 ^ z.
-ends : ℕ → ℕ → Bool
-ends n z = pick (eqb (n % 2 ^ suc z) (2 ^ z)) (both (ltb 0 n) (eqb (trailingZeros 7 n) z)) true
+-- A number of k bits that is not 0 ends in as many zero bits at every width from k on, and in fewer than k.
+pub zeros-at : (k w n : ℕ) → 0 < n → n < 2 ^ k → k ≤ w → (trailingZeros w n ≡ trailingZeros k n) × (trailingZeros k n < k)
+unfolding trailingZeros
+zeros-at zero w n some low wide = omega arith
+zeros-at (suc k) zero n some low wide = absurd (not-suc-le-zero wide)
+zeros-at (suc k) (suc w) n some low wide =
+    go (λ e. zeros-at k w (n / 2) (omega arith) (omega (arith, pow-suc 2 k)) (omega arith)) (n % 2) refl
+  where
+    go : (n % 2 ≡ 0 → (trailingZeros w (n / 2) ≡ trailingZeros k (n / 2)) × (trailingZeros k (n / 2) < k))
+        → (d : ℕ) → n % 2 ≡ d → (under d (trailingZeros w (n / 2)) ≡ under d (trailingZeros k (n / 2))) × (under d (trailingZeros k (n / 2)) < suc k)
+    go even zero e = (ap suc (even e .0), suc-le-suc (even e .1))
+    go even (suc d) e = (refl, omega arith)
 
-all-end : upto subPeriods (λ n. upto 7 (λ z. ends n z)) ≡ true
-unfolding ends trailingZeros
-all-end = refl
-
--- so fine bit 6 - z serves it
-pub served : (z fine n : ℕ) → z < 7 → n < subPeriods → n % 2 ^ suc z ≡ 2 ^ z → added fine n ≡ bit fine (6 - z)
-unfolding added ends
-served z fine n hz hn e =
-    let here : ends n z ≡ true = upto-at 7 (λ y. ends n y) (upto-at subPeriods (λ m. upto 7 (λ y. ends m y)) all-end n hn) z hz in
-    let found : both (ltb 0 n) (eqb (trailingZeros 7 n) z) ≡ true =
-    sym (ap (λ (b : Bool). pick b (both (ltb 0 n) (eqb (trailingZeros 7 n) z)) true) (eq-eqb (n % 2 ^ suc z) (2 ^ z) e)) ∙ here in
-    let parts = both-parts (ltb 0 n) (eqb (trailingZeros 7 n) z) found in
-    let some : 0 < n = ltb-true 0 n (parts .0) in
-    let zeros : trailingZeros 7 n ≡ z = eqb-true (trailingZeros 7 n) z (parts .1) in
-    ap (λ (b : Bool). pick b 0 (bit fine (6 - trailingZeros 7 n))) (ne-eqb n 0 (λ x. omega arith)) ∙ ap (λ (y : ℕ). bit fine (6 - y)) zeros
+-- So a sub-period's count is at most 6, and the bit 6 less it is the account's.
+pub served : (w n : ℕ) → 0 < n → n < subPeriods → 7 ≤ w → (fine b : ℕ) → b ≡ 6 - trailingZeros w n → bit fine b ≡ added fine n
+unfolding added
+served w n some low wide fine b e =
+    ap (bit fine) (e ∙ ap (λ (z : ℕ). 6 - z) (zeros-at 7 w n some low wide .0))
+    ∙ sym (ap (λ (t : Bool). pick t 0 (bit fine (6 - trailingZeros 7 n))) (ne-eqb n 0 (λ z. omega arith)))
 
 pub none-at-0 : (fine n : ℕ) → n ≡ 0 → added fine n ≡ 0
 unfolding added
-none-at-0 fine n e = ap (λ (b : Bool). pick b 0 (bit fine (6 - trailingZeros 7 n))) (eq-eqb n 0 e)
+none-at-0 fine n e = ap (λ (t : Bool). pick t 0 (bit fine (6 - trailingZeros 7 n))) (eq-eqb n 0 e)

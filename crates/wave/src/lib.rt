@@ -116,33 +116,17 @@ fn high_in(pair: Pair, n: usize) -> u8
     least(pair.coarse as usize + more as usize, SUB_PERIOD) as u8
 }
 
-// The clock that a fine half adds to sub-period n.
+// The clock that a fine half adds to sub-period n, if any: where n ends in z zero bits, fine bit 6 - z says whether there is one. So bit 1 serves
+// sub-period 96: in binary 96 is 1100000, which ends in five zero bits, and 6 - 5 is 1. Sub-period 0 has no bit that is set, and none serves it.
 fn added(fine: u8, n: usize) -> u8
     requires { ⌜ n < subPeriods ⌝ }
     ensures { λ r. ⌜ r ≡ addedOf fine n ⌝ }
 {
-    if n % 2 != 0 {
-        return fine / 64 % 2;
+    if n == 0 {
+        return 0;
     }
-    if n % 4 != 0 {
-        return fine / 32 % 2;
-    }
-    if n % 8 != 0 {
-        return fine / 16 % 2;
-    }
-    if n % 16 != 0 {
-        return fine / 8 % 2;
-    }
-    if n % 32 != 0 {
-        return fine / 4 % 2;
-    }
-    if n % 64 != 0 {
-        return fine / 2 % 2;
-    }
-    if n != 0 {
-        return fine % 2;
-    }
-    0
+    let bit = 6 - usize::trailing_zeros(n);
+    (fine >> bit) % 2
 }
 
 fn least(a: usize, b: usize) -> usize

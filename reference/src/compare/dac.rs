@@ -231,10 +231,13 @@ mod tests {
         assert_eq!(run(&Fast, &pairs, &mut silent).unwrap(), 128 * 8);
     }
 
+    /// The fine bit that serves a sub-period, if any does.
+    type Serving = fn(u16) -> Option<u32>;
+
     /// The model with one mistake in it.
     enum Mistake {
         LowReachesTheOutput,
-        SubPeriodZeroServed,
+        ServedBy(Serving),
         LoadsAtTheEnd,
         TouchesOneByteMore,
         RawFieldsStay,
@@ -267,10 +270,12 @@ mod tests {
             let mut answer = Model.play(record, clocks, levels);
             let played = clocks as usize;
             match self {
-                Mistake::SubPeriodZeroServed if answer.number == 0 && before.position == 0 => {
-                    let coarse = usize::from(record.in_force.coarse);
-                    if coarse < played && record.in_force.fine == 127 {
-                        levels[coarse] = 1;
+                // Only where the play stays in one period, as all those of the pairs do.
+                Mistake::ServedBy(bit) if answer.number == 0 && usize::from(before.position) + played <= PERIOD => {
+                    let pair = record.in_force;
+                    for (level, position) in levels[..played].iter_mut().zip(before.position..) {
+                        let added = bit(position / 128).is_some_and(|bit| pair.fine >> bit & 1 == 1);
+                        *level = u8::from(position % 128 < u16::from(pair.coarse) + u16::from(added));
                     }
                 }
                 Mistake::LoadsAtTheEnd if record.position == 0 && played > 0 && answer.number == 0 => {
@@ -309,8 +314,32 @@ mod tests {
             let difference = some_sequences(&mistake).unwrap_err();
             assert!(difference.report.contains("calls [") && difference.report.contains("library"));
         }
-        let last_of_a_coarse_half = Plan { from: 5 * 128 + 120, count: Some(8), ..Plan::default() };
-        assert!(run(&Mistake::SubPeriodZeroServed, &last_of_a_coarse_half, &mut silent).is_err());
+    }
+
+    #[test]
+    fn a_bit_that_serves_another_sub_period_is_found() {
+        fn not_0(n: u16, bit: fn(u16) -> u32) -> Option<u32> {
+            (n != 0).then(|| bit(n))
+        }
+        let right = |n| not_0(n, |n| 6 - n.trailing_zeros());
+        let wrong: [(&str, Serving); 8] = [
+            ("0 is served as 64 is", |n| Some(6 - n.trailing_zeros().min(6))),
+            ("64 is not served", |n| not_0(n % 64, |n| 6 - n.trailing_zeros())),
+            ("one bit low, and none for 64", |n| {
+                not_0(n, |n| 6 - n.trailing_zeros()).and_then(|bit| bit.checked_sub(1))
+            }),
+            ("one bit high", |n| not_0(n, |n| 7 - n.trailing_zeros())),
+            ("in the other order", |n| not_0(n, |n| n.trailing_zeros())),
+            ("by the highest bit of the number", |n| not_0(n, |n| n.leading_zeros() - 9)),
+            ("by how many bits of the number are 0", |n| not_0(n, |n| 7 - n.count_ones())),
+            ("96 by bit 0", |n| not_0(n, |n| if n == 96 { 0 } else { 6 - n.trailing_zeros() })),
+        ];
+        let pairs = Plan { from: 5 * 128, count: Some(128), ..Plan::default() };
+        assert_eq!(run(&Mistake::ServedBy(right), &pairs, &mut silent).unwrap(), 128 * 8);
+        for (name, bit) in wrong {
+            let difference = run(&Mistake::ServedBy(bit), &pairs, &mut silent).expect_err(name);
+            assert!(difference.report.contains("the room differs"), "{name}: {}", difference.report);
+        }
     }
 
     #[test]

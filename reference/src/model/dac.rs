@@ -123,6 +123,31 @@ mod tests {
         assert_eq!(served(127), (1..128).collect::<Vec<u16>>());
     }
 
+    /// The rows of sheet 000's Table 39, which has more of them than sheet 004's Table 5 and sheet 002's Table 2; those agree with it, a clear bit
+    /// for a set one. Where a row leaves numbers out, the printed ones go on by the step between its first two.
+    #[test]
+    fn fine_bits_serve_the_sub_periods_that_the_sheets_print() {
+        let steps = |first: u16, second: u16, last: u16| (first..=last).step_by(usize::from(second - first)).collect();
+        let rows: [(u8, Vec<u16>, usize); 12] = [
+            (0b000_0000, vec![], 0),
+            (0b000_0001, vec![64], 1),
+            (0b000_0010, vec![32, 96], 2),
+            (0b000_0011, vec![32, 64, 96], 3),
+            (0b000_0100, vec![16, 48, 80, 112], 4),
+            (0b000_0101, vec![16, 48, 64, 80, 112], 5),
+            (0b000_1000, vec![8, 24, 40, 56, 72, 88, 104, 120], 8),
+            (0b001_0000, steps(4, 12, 124), 16),
+            (0b010_0000, steps(2, 6, 126), 32),
+            (0b100_0000, steps(1, 3, 127), 64),
+            (0b111_1110, [steps(1, 2, 63), steps(65, 66, 127)].concat(), 126),
+            (0b111_1111, steps(1, 2, 127), 127),
+        ];
+        for (fine, sub_periods, total) in rows {
+            assert_eq!(sub_periods.len(), total);
+            assert_eq!(served(fine), sub_periods, "fine half {fine}");
+        }
+    }
+
     #[test]
     fn coarse_1_fine_3_has_131_high_clocks_and_33_in_a_run_of_32() {
         let period = period_of(1, 3);

@@ -1,59 +1,36 @@
--- `wave::added` meets its contract: the first power of two that does not divide the sub-period's number tells which fine bit serves it.
+-- `wave::added` meets its contract: the bit that it reads is the one that serves the sub-period.
 -- Assumes nothing.
-use mathlib.Core.Path.{_≡_, sym}
-use Prim.Native.Nat.{_%_}
+use mathlib.Core.Path.{_≡_}
+use Prim.Native.Nat.{_<_}
 use native.Mathlib.Omega.{arith}
-use Rattle.wave.proofs.Fine.{served, none-at-0}
+use borrow.Author.Needs.{needs}
+use Rattle.wave.proofs.Fine.{zeros-at, served, none-at-0}
 use Rattle.wave.proofs.added.Statement.{statement}
 use Rattle.wave.proofs.added.Tie as tie
 
 returns : tie.Need-returns
 returns c =
     let a = (let s : tie.Start = search in s .args) in
-    let ends : a .n % 2 ≡ 1 = omega arith in
-    sym (served 0 (a .fine) (a .n) (omega arith) (omega arith) ends)
+    let first : a .n ≡ 0 = omega arith in
+    omega (arith, none-at-0 (a .fine) (a .n) first)
+
+sub-bit : tie.Need-sub-bit
+sub-bit c =
+    let n = (let s : tie.Start = search in s .args .n) in
+    let some : 0 < n = omega arith in
+    let zeros = zeros-at 7 64 n some (omega arith) (omega arith) in
+    omega arith
+
+cast-result : tie.Need-cast-result
+cast-result c = search needs
+
+shr-result : tie.Need-shr-result
+shr-result c = search needs
 
 returns-2 : tie.Need-returns-2
 returns-2 c =
     let a = (let s : tie.Start = search in s .args) in
-    let ends : a .n % 4 ≡ 2 = omega arith in
-    sym (served 1 (a .fine) (a .n) (omega arith) (omega arith) ends)
-
-returns-3 : tie.Need-returns-3
-returns-3 c =
-    let a = (let s : tie.Start = search in s .args) in
-    let ends : a .n % 8 ≡ 4 = omega arith in
-    sym (served 2 (a .fine) (a .n) (omega arith) (omega arith) ends)
-
-returns-4 : tie.Need-returns-4
-returns-4 c =
-    let a = (let s : tie.Start = search in s .args) in
-    let ends : a .n % 16 ≡ 8 = omega arith in
-    sym (served 3 (a .fine) (a .n) (omega arith) (omega arith) ends)
-
-returns-5 : tie.Need-returns-5
-returns-5 c =
-    let a = (let s : tie.Start = search in s .args) in
-    let ends : a .n % 32 ≡ 16 = omega arith in
-    sym (served 4 (a .fine) (a .n) (omega arith) (omega arith) ends)
-
-returns-6 : tie.Need-returns-6
-returns-6 c =
-    let a = (let s : tie.Start = search in s .args) in
-    let ends : a .n % 64 ≡ 32 = omega arith in
-    sym (served 5 (a .fine) (a .n) (omega arith) (omega arith) ends)
-
-returns-7 : tie.Need-returns-7
-returns-7 c =
-    let a = (let s : tie.Start = search in s .args) in
-    let ends : a .n % 128 ≡ 64 = omega arith in
-    omega (arith, served 6 (a .fine) (a .n) (omega arith) (omega arith) ends)
-
-returns-8 : tie.Need-returns-8
-returns-8 c =
-    let a = (let s : tie.Start = search in s .args) in
-    let first : a .n ≡ 0 = omega arith in
-    sym (none-at-0 (a .fine) (a .n) first)
+    served 64 (a .n) (omega arith) (omega arith) (omega arith) (a .fine) _ (omega arith)
 
 pub added-spec : {M : Type 1} → statement M
-added-spec = tie.close (tie.spec returns returns-2 returns-3 returns-4 returns-5 returns-6 returns-7 returns-8)
+added-spec = tie.close (tie.spec returns sub-bit cast-result shr-result returns-2)

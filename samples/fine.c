@@ -1,0 +1,129 @@
+/* fine.c: tells which fine bit adds its clock to which sub-periods of the tuning DAC; with a coarse and a fine half as words, draws a period of that pair. */
+#include "dirgeflint.h"
+#include <stdio.h>
+#include <stdlib.h>
+
+enum { BITS = 7, NONE = -1, HALF_MOST = 127 };
+
+/* A period's levels, sub-period by sub-period. */
+static uint8_t levels[DIRGEFLINT_SUB_PERIODS][DIRGEFLINT_SUB_PERIOD];
+
+/* The fine bit that serves each sub-period, or NONE. */
+static int serving[DIRGEFLINT_SUB_PERIODS];
+
+/* Plays a period of a pair, from reset. */
+static void play(unsigned coarse, unsigned fine)
+{
+    dirgeflint_dac dac;
+    dirgeflint_dac_reset(&dac);
+    dirgeflint_dac_write_low(&dac, (uint8_t)fine);
+    dirgeflint_dac_write_high(&dac, (uint8_t)coarse);
+    dirgeflint_answer a = dirgeflint_dac_play(&dac, DIRGEFLINT_PERIOD, levels[0], sizeof levels);
+    if (a.number != DIRGEFLINT_ACCEPTED) {
+        fprintf(stderr, "fine: %s (refused %u)\n", dirgeflint_reason(a.number), (unsigned)a.number);
+        exit(1);
+    }
+}
+
+/* Plays each bit alone, with coarse 0: the clocks that it adds are then the only high ones, each the first of its sub-period. */
+static void find(void)
+{
+    for (int n = 0; n < DIRGEFLINT_SUB_PERIODS; n++)
+        serving[n] = NONE;
+    for (int bit = 0; bit < BITS; bit++) {
+        play(0, 1u << bit);
+        for (int n = 0; n < DIRGEFLINT_SUB_PERIODS; n++)
+            if (levels[n][0] == 1)
+                serving[n] = bit;
+    }
+}
+
+/* How many zero bits a number ends in, of the 7 that a sub-period's number has. */
+static int zero_bits(int n)
+{
+    int zeros = 0;
+    while (zeros < BITS && n % 2 == 0) {
+        n /= 2;
+        zeros++;
+    }
+    return zeros;
+}
+
+/* The sub-periods that a bit serves: how many, in how many zero bits they end, and which. */
+static void tell(int bit)
+{
+    int served[DIRGEFLINT_SUB_PERIODS], count = 0;
+    for (int n = 0; n < DIRGEFLINT_SUB_PERIODS; n++)
+        if (serving[n] == bit)
+            served[count++] = n;
+    if (bit == NONE)
+        printf("none");
+    else
+        printf("%4d", bit);
+    printf("%8d", count);
+    for (int i = 0; i < count; i++) {
+        if (i == 0)
+            printf("%11d  ", zero_bits(served[i]));
+        else if (i % 16 == 0)
+            printf("\n%25s", "");
+        printf("%4d", served[i]);
+    }
+    putchar('\n');
+}
+
+/* A column for each sub-period, as high as it has high clocks; below it, if it has one more than the others, the bit that added it. */
+static void draw(unsigned coarse, unsigned fine)
+{
+    unsigned high = 0;
+    int rows = 1;
+    play(coarse, fine);
+    for (int n = 0; n < DIRGEFLINT_SUB_PERIODS; n++)
+        for (int clock = 0; clock < DIRGEFLINT_SUB_PERIOD; clock++)
+            if (levels[n][clock] == 1) {
+                high++;
+                if (rows <= clock)
+                    rows = clock + 1;
+            }
+    printf("coarse %u, fine %u: high for %u of %d clocks\n", coarse, fine, high, DIRGEFLINT_PERIOD);
+    if (rows < DIRGEFLINT_SUB_PERIOD)
+        printf("clocks %d to %d are low in every sub-period\n", rows, DIRGEFLINT_SUB_PERIOD - 1);
+    for (int clock = rows - 1; clock >= 0; clock--) {
+        printf("clock %3d  ", clock);
+        for (int n = 0; n < DIRGEFLINT_SUB_PERIODS; n++)
+            putchar(levels[n][clock] == 1 ? '#' : '.');
+        putchar('\n');
+    }
+    printf("bit        ");
+    for (int n = 0; n < DIRGEFLINT_SUB_PERIODS; n++)
+        putchar(levels[n][coarse] == 1 && serving[n] != NONE ? '0' + serving[n] : ' ');
+    printf("\nsub-period ");
+    for (int n = 0; n < DIRGEFLINT_SUB_PERIODS; n += 8)
+        printf("%-8d", n);
+    putchar('\n');
+}
+
+/* A half as a word: false if it is no number from 0 to 127. */
+static bool half(const char *word, unsigned *value)
+{
+    char *end;
+    unsigned long number = strtoul(word, &end, 10);
+    *value = (unsigned)number;
+    return *word >= '0' && *word <= '9' && *end == '\0' && number <= HALF_MOST;
+}
+
+int main(int words, char **word)
+{
+    unsigned coarse, fine;
+    find();
+    if (words == 1) {
+        printf(" bit  serves  zero bits  sub-periods\n");
+        for (int bit = BITS - 1; bit >= NONE; bit--)
+            tell(bit);
+    } else if (words == 3 && half(word[1], &coarse) && half(word[2], &fine)) {
+        draw(coarse, fine);
+    } else {
+        fprintf(stderr, "usage: fine, for the table of the fine bits; fine COARSE FINE, each from 0 to 127, for a period of that pair\n");
+        return 2;
+    }
+    return 0;
+}
