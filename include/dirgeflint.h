@@ -29,8 +29,8 @@
  * change, so that every host has to be compiled again. CHANGELOG.md tells what changed.
  */
 #define DIRGEFLINT_VERSION_MAJOR 1
-#define DIRGEFLINT_VERSION_MINOR 3
-#define DIRGEFLINT_VERSION "1.3"
+#define DIRGEFLINT_VERSION_MINOR 4
+#define DIRGEFLINT_VERSION "1.4"
 
 #ifdef __cplusplus
 extern "C" {
@@ -152,6 +152,8 @@ dirgeflint_answer dirgeflint_pulse_level(uint32_t channel, uint8_t byte, uint32_
  *   fine bit    6      5            4             3           2          1        0
  *   value      64     32           16             8           4          2        1
  *   adds to    odd    2, 6, 10 ..  4, 12, 20 ..   8, 24 ..    16, 48 ..  32, 96   64       (of sub-periods 0 to 127; 0 never gets one)
+ *
+ * The rule behind it: bit 6 - z serves the sub-periods whose number ends in z zero bits. 96 is 1100000 in binary, so bit 1 serves it.
  *
  * Writing takes two calls, the low (fine) half first: a low write is held, and a high write completes a pair with the fine half then
  * held. The pair completed last comes into force as the first clock of a period is played, and stays for that whole period: nothing

@@ -49,22 +49,22 @@ static int zero_bits(int n)
     return zeros;
 }
 
-/* The sub-periods that a bit serves: how many, in how many zero bits they end, and which. */
+/* The sub-periods that a bit serves: how many, in how many zero bits they all end (-1 if not in equally many), and which. */
 static void tell(int bit)
 {
-    int served[DIRGEFLINT_SUB_PERIODS], count = 0;
+    int served[DIRGEFLINT_SUB_PERIODS], count = 0, zeros = NONE;
     for (int n = 0; n < DIRGEFLINT_SUB_PERIODS; n++)
-        if (serving[n] == bit)
+        if (serving[n] == bit) {
+            zeros = count == 0 || zeros == zero_bits(n) ? zero_bits(n) : NONE;
             served[count++] = n;
+        }
     if (bit == NONE)
         printf("none");
     else
         printf("%4d", bit);
-    printf("%8d", count);
+    printf("%8d%11d  ", count, zeros);
     for (int i = 0; i < count; i++) {
-        if (i == 0)
-            printf("%11d  ", zero_bits(served[i]));
-        else if (i % 16 == 0)
+        if (i > 0 && i % 16 == 0)
             printf("\n%25s", "");
         printf("%4d", served[i]);
     }
