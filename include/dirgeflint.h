@@ -25,8 +25,8 @@
 #include <stdint.h>
 
 /*
- * The minor number goes up when something is added, or is shown or told otherwise than before, the major one when declarations or layouts
- * change, so that every host has to be compiled again. CHANGELOG.md tells what changed.
+ * The minor number goes up with every delivery, also with one in which nothing changes for a host, the major one when declarations or
+ * layouts change, so that every host has to be compiled again. CHANGELOG.md tells what changed.
  */
 #define DIRGEFLINT_VERSION_MAJOR 1
 #define DIRGEFLINT_VERSION_MINOR 4
@@ -153,7 +153,8 @@ dirgeflint_answer dirgeflint_pulse_level(uint32_t channel, uint8_t byte, uint32_
  *   value      64     32           16             8           4          2        1
  *   adds to    odd    2, 6, 10 ..  4, 12, 20 ..   8, 24 ..    16, 48 ..  32, 96   64       (of sub-periods 0 to 127; 0 never gets one)
  *
- * The rule behind it: bit 6 - z serves the sub-periods whose number ends in z zero bits. 96 is 1100000 in binary, so bit 1 serves it.
+ * The rule behind it: bit 6 - z adds to the sub-periods, 0 apart, whose number ends in exactly z zero bits. 96 is 1100000 in binary and
+ * ends in five, and 6 - 5 is 1: its clock is that of bit 1.
  *
  * Writing takes two calls, the low (fine) half first: a low write is held, and a high write completes a pair with the fine half then
  * held. The pair completed last comes into force as the first clock of a period is played, and stays for that whole period: nothing

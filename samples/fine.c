@@ -1,4 +1,4 @@
-/* fine.c: tells which fine bit adds its clock to which sub-periods of the tuning DAC; with a coarse and a fine half as words, draws a period of that pair. */
+/* fine.c: tells which fine bit adds a clock to which sub-periods of the tuning DAC; with a coarse and a fine half as words, draws a period of that pair. */
 #include "dirgeflint.h"
 #include <stdio.h>
 #include <stdlib.h>
@@ -18,14 +18,14 @@ static void play(unsigned coarse, unsigned fine)
     dirgeflint_dac_reset(&dac);
     dirgeflint_dac_write_low(&dac, (uint8_t)fine);
     dirgeflint_dac_write_high(&dac, (uint8_t)coarse);
-    dirgeflint_answer a = dirgeflint_dac_play(&dac, DIRGEFLINT_PERIOD, levels[0], sizeof levels);
+    dirgeflint_answer a = dirgeflint_dac_play(&dac, DIRGEFLINT_PERIOD, (uint8_t *)levels, sizeof levels);
     if (a.number != DIRGEFLINT_ACCEPTED) {
         fprintf(stderr, "fine: %s (refused %u)\n", dirgeflint_reason(a.number), (unsigned)a.number);
         exit(1);
     }
 }
 
-/* Plays each bit alone, with coarse 0: the clocks that it adds are then the only high ones, each the first of its sub-period. */
+/* Plays each bit alone, with coarse 0: the clocks that it adds are then the only high ones, each the first of a sub-period that no other bit serves. */
 static void find(void)
 {
     for (int n = 0; n < DIRGEFLINT_SUB_PERIODS; n++)
@@ -33,8 +33,14 @@ static void find(void)
     for (int bit = 0; bit < BITS; bit++) {
         play(0, 1u << bit);
         for (int n = 0; n < DIRGEFLINT_SUB_PERIODS; n++)
-            if (levels[n][0] == 1)
-                serving[n] = bit;
+            for (int clock = 0; clock < DIRGEFLINT_SUB_PERIOD; clock++)
+                if (levels[n][clock] == 1) {
+                    if (clock > 0 || serving[n] != NONE) {
+                        fprintf(stderr, "fine: bit %d alone makes clock %d of sub-period %d high\n", bit, clock, n);
+                        exit(1);
+                    }
+                    serving[n] = bit;
+                }
     }
 }
 
@@ -62,10 +68,10 @@ static void tell(int bit)
         printf("none");
     else
         printf("%4d", bit);
-    printf("%8d%11d  ", count, zeros);
+    printf("%10d%14d ", count, zeros);
     for (int i = 0; i < count; i++) {
         if (i > 0 && i % 16 == 0)
-            printf("\n%25s", "");
+            printf("\n%29s", "");
         printf("%4d", served[i]);
     }
     putchar('\n');
@@ -86,7 +92,7 @@ static void draw(unsigned coarse, unsigned fine)
             }
     printf("coarse %u, fine %u: high for %u of %d clocks\n", coarse, fine, high, DIRGEFLINT_PERIOD);
     if (rows < DIRGEFLINT_SUB_PERIOD)
-        printf("clocks %d to %d are low in every sub-period\n", rows, DIRGEFLINT_SUB_PERIOD - 1);
+        printf("from clock %d on every sub-period is low\n", rows);
     for (int clock = rows - 1; clock >= 0; clock--) {
         printf("clock %3d  ", clock);
         for (int n = 0; n < DIRGEFLINT_SUB_PERIODS; n++)
@@ -116,13 +122,14 @@ int main(int words, char **word)
     unsigned coarse, fine;
     find();
     if (words == 1) {
-        printf(" bit  serves  zero bits  sub-periods\n");
+        printf(" bit  how many  zeros at end  which\n");
         for (int bit = BITS - 1; bit >= NONE; bit--)
             tell(bit);
     } else if (words == 3 && half(word[1], &coarse) && half(word[2], &fine)) {
         draw(coarse, fine);
     } else {
-        fprintf(stderr, "usage: fine, for the table of the fine bits; fine COARSE FINE, each from 0 to 127, for a period of that pair\n");
+        fprintf(stderr, "usage: fine                which fine bit serves which sub-periods\n"
+                        "       fine COARSE FINE    a period of that pair; each half is a number from 0 to 127\n");
         return 2;
     }
     return 0;

@@ -23,7 +23,7 @@ zeros-at (suc k) (suc w) n some low wide =
     go even zero e = (ap suc (even e .0), suc-le-suc (even e .1))
     go even (suc d) e = (refl, omega arith)
 
--- So a sub-period's count is at most 6, and the bit 6 less it is the account's.
+-- So of a sub-period that is not 0, the bit 6 less its count, at any width from 7 on, is the account's.
 pub served : (w n : ℕ) → 0 < n → n < subPeriods → 7 ≤ w → (fine b : ℕ) → b ≡ 6 - trailingZeros w n → bit fine b ≡ added fine n
 unfolding added
 served w n some low wide fine b e =

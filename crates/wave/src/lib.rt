@@ -116,8 +116,9 @@ fn high_in(pair: Pair, n: usize) -> u8
     least(pair.coarse as usize + more as usize, SUB_PERIOD) as u8
 }
 
-// The clock, 1 or 0, that a fine half adds to sub-period n: if n ends in z zero bits, it is fine bit 6 - z. Why bit 1 serves sub-period 96: in binary
-// 96 is 1100000, it ends in five zero bits, and 6 - 5 is 1. Sub-period 0 has no bit set at which its zeros would end, and no fine bit serves it.
+// The clock, 1 or 0, that a fine half adds to sub-period n: if n ends in exactly z zero bits, it is fine bit 6 - z. Bit b so serves 2 ^ b sub-periods,
+// as many as it is worth. Why bit 1 serves sub-period 96: in binary 96 is 1100000, it ends in five zero bits, and 6 - 5 is 1. Sub-period 0 has no bit
+// set at which its zeros would end, and no fine bit serves it.
 fn added(fine: u8, n: usize) -> u8
     requires { ⌜ n < subPeriods ⌝ }
     ensures { λ r. ⌜ r ≡ addedOf fine n ⌝ }

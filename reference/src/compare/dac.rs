@@ -231,8 +231,8 @@ mod tests {
         assert_eq!(run(&Fast, &pairs, &mut silent).unwrap(), 128 * 8);
     }
 
-    /// The fine bit that serves a sub-period, if any does.
-    type Serving = fn(u16) -> Option<u32>;
+    /// The bit of a fine half that serves a sub-period, if any does.
+    type Serving = fn(u16, u8) -> Option<u32>;
 
     /// The model with one mistake in it.
     enum Mistake {
@@ -274,7 +274,7 @@ mod tests {
                 Mistake::ServedBy(bit) if answer.number == 0 && usize::from(before.position) + played <= PERIOD => {
                     let pair = record.in_force;
                     for (level, position) in levels[..played].iter_mut().zip(before.position..) {
-                        let added = bit(position / 128).is_some_and(|bit| pair.fine >> bit & 1 == 1);
+                        let added = bit(position / 128, pair.fine).is_some_and(|bit| pair.fine >> bit & 1 == 1);
                         *level = u8::from(position % 128 < u16::from(pair.coarse) + u16::from(added));
                     }
                 }
@@ -321,18 +321,22 @@ mod tests {
         fn not_0(n: u16, bit: fn(u16) -> u32) -> Option<u32> {
             (n != 0).then(|| bit(n))
         }
-        let right = |n| not_0(n, |n| 6 - n.trailing_zeros());
-        let wrong: [(&str, Serving); 8] = [
-            ("0 is served as 64 is", |n| Some(6 - n.trailing_zeros().min(6))),
-            ("64 is not served", |n| not_0(n % 64, |n| 6 - n.trailing_zeros())),
-            ("one bit low, and none for 64", |n| {
+        let right = |n, _| not_0(n, |n| 6 - n.trailing_zeros());
+        let wrong: [(&str, Serving); 9] = [
+            ("0 is served as 64 is", |n, _| Some(6 - n.trailing_zeros().min(6))),
+            ("0 is served, but only by the whole fine half", |n, fine| match (n, fine) {
+                (0, 127) => Some(0),
+                _ => not_0(n, |n| 6 - n.trailing_zeros()),
+            }),
+            ("64 is not served", |n, _| not_0(n % 64, |n| 6 - n.trailing_zeros())),
+            ("one bit low, and none for 64", |n, _| {
                 not_0(n, |n| 6 - n.trailing_zeros()).and_then(|bit| bit.checked_sub(1))
             }),
-            ("one bit high", |n| not_0(n, |n| 7 - n.trailing_zeros())),
-            ("in the other order", |n| not_0(n, |n| n.trailing_zeros())),
-            ("by the highest bit of the number", |n| not_0(n, |n| n.leading_zeros() - 9)),
-            ("by how many bits of the number are 0", |n| not_0(n, |n| 7 - n.count_ones())),
-            ("96 by bit 0", |n| not_0(n, |n| if n == 96 { 0 } else { 6 - n.trailing_zeros() })),
+            ("one bit high", |n, _| not_0(n, |n| 7 - n.trailing_zeros())),
+            ("in the other order", |n, _| not_0(n, |n| n.trailing_zeros())),
+            ("by the highest bit of the number", |n, _| not_0(n, |n| n.leading_zeros() - 9)),
+            ("by how many bits of the number are 0", |n, _| not_0(n, |n| 7 - n.count_ones())),
+            ("96 by bit 0", |n, _| not_0(n, |n| if n == 96 { 0 } else { 6 - n.trailing_zeros() })),
         ];
         let pairs = Plan { from: 5 * 128, count: Some(128), ..Plan::default() };
         assert_eq!(run(&Mistake::ServedBy(right), &pairs, &mut silent).unwrap(), 128 * 8);
