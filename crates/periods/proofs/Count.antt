@@ -15,7 +15,8 @@ use Rattle.wave.specs.Wave.{period, subPeriod, subPeriods, added, wave}
 use Rattle.dac.specs.Running.{halves}
 use Rattle.wave.specs.Steps.{pulse}
 use Rattle.periods.specs.Demand.{highs, highClocks, runOf, Shares}
-use Rattle.periods.proofs.Fair.{addedTo, added-le, added-all, run-below, run-above}
+use Rattle.periods.proofs.Fair.{addedTo, added-all, run-below, run-above}
+use Rattle.wave.proofs.Fine.{added-le}
 use Rattle.wave.proofs.Within.{length-wave, wave-add, within-sub}
 
 highs-append : (xs ys : List ℕ) → highs (xs ++ ys) ≡ highs xs + highs ys

@@ -1,27 +1,17 @@
 -- What every fine half adds to every run of sub-periods, from a test that antt computes: its share, but for less than one clock.
 -- Assumes nothing.
-use Prim.Native.Nat.{ℕ, zero, suc, _+_, _-_, _*_, _^_, _<_, _≤_}
+use Prim.Native.Nat.{ℕ, zero, suc, _+_, _-_, _*_, _^_, _<_}
 use mathlib.Core.Path.{_≡_, refl}
-use mathlib.Core.Bool.{Bool, true, false}
-use native.Mathlib.Omega.{arith}
+use mathlib.Core.Bool.{Bool, true}
 use lib.Dec.{ltb, eqb}
 use lib.Count.{trailingZeros}
 use borrow.Author.Tests.{eqb-true, ltb-true}
-use Rattle.laws.specs.Pick.{pick, both}
+use Rattle.laws.specs.Pick.{both}
 use Rattle.laws.proofs.Both.{both-parts}
 use Rattle.laws.specs.Lists.{upto}
 use Rattle.laws.proofs.Tests.{upto-at}
-use Rattle.wave.specs.Wave.{subPeriods, added, bit}
+use Rattle.wave.specs.Wave.{subPeriods, added}
 use Rattle.dac.specs.Running.{halves}
-
--- a sub-period gets one clock or none
-pub added-le : (fine n : ℕ) → added fine n ≤ 1
-unfolding added
-added-le fine n = go (eqb n 0)
-  where
-    go : (b : Bool) → pick b 0 (bit fine (6 - trailingZeros 7 n)) ≤ 1
-    go true = omega arith
-    go false = omega arith
 
 -- what is added to m sub-periods from a on
 unfoldable pub addedTo : ℕ → ℕ → ℕ → ℕ

@@ -2,9 +2,10 @@
 -- Assumes nothing.
 use Prim.Native.Nat.{ℕ, zero, suc, _-_, _/_, _%_, _^_, _<_, _≤_, suc-le-suc}
 use mathlib.Core.Path.{_≡_, refl, sym, ap, _∙_}
-use mathlib.Core.Bool.{Bool}
+use mathlib.Core.Bool.{Bool, true, false}
 use native.Mathlib.Nat.{not-suc-le-zero, pow-suc}
 use native.Mathlib.Omega.{arith}
+use lib.Dec.{eqb}
 use lib.Count.{trailingZeros, under}
 use borrow.Author.Tests.{eq-eqb, ne-eqb}
 use Rattle.laws.specs.Pick.{pick}
@@ -33,3 +34,12 @@ served w n some low wide fine b e =
 pub none-at-0 : (fine n : ℕ) → n ≡ 0 → added fine n ≡ 0
 unfolding added
 none-at-0 fine n e = ap (λ (t : Bool). pick t 0 (bit fine (6 - trailingZeros 7 n))) (eq-eqb n 0 e)
+
+-- a sub-period gets one clock or none
+pub added-le : (fine n : ℕ) → added fine n ≤ 1
+unfolding added
+added-le fine n = go (eqb n 0)
+  where
+    go : (t : Bool) → pick t 0 (bit fine (6 - trailingZeros 7 n)) ≤ 1
+    go true = omega arith
+    go false = omega arith

@@ -165,8 +165,20 @@ module _ (q : Pair) (a : ℕ) where
       let all : i ≡ length l₀ = omega (arith, g .inside) in
       g .is ∙ rw (all, drop-length l₀) (append-nil (wave q a (length l₀)))
 
-  -- What `lay` leaves in s: it writes nothing from the period's end on; the sub-period under way may be all; or the others follow it.
+  -- the part behind it is laid, and that is all
+  pub begun-rest : (i : ℕ) (l l₀ ys : List ℕ) → Begun q a i l l₀ → ys ≡ wave q (a + i) (length (take (length l - i) (drop i l)))
+      → take i l ++ (ys ++ drop (length l - i) (drop i l)) ≡ wave q a (length l₀)
+  begun-rest i l l₀ ys g is =
+      let room : length (take (length l - i) (drop i l)) ≡ length l - i = length-take-le (length l - i) (drop i l) (omega (arith, length-drop i l)) in
+      begun-all (length l) _ l₀ (omega (arith, g .size))
+      (begun-more i (length l) l l₀ ys g (omega (arith, g .size, g .inside)) (omega (arith, g .size)) (is ∙ ap (wave q (a + i)) room))
+
   module _ (s : List ℕ) where
+    -- a first part is laid
+    pub begun-first : (n : ℕ) (ls : List ℕ) → n ≤ length s → ls ≡ wave q a (length (take n s)) → Begun q a n (ls ++ drop n s) s
+    begun-first n ls h is = begun-by n _ s h (ap (λ (w : List ℕ). w ++ drop n s) (is ∙ ap (wave q a) (length-take-le n s h)))
+
+    -- What `lay` leaves in s: as many levels as there are bytes, and none from the period's end on.
     laid-is : (n : ℕ) → n ≡ min (length s) (period - a) → wave q a n ++ drop n s ≡ laid q a s
     unfolding laid
     laid-is n e = rw (← e, length-wave q a n)
@@ -174,20 +186,8 @@ module _ (q : Pair) (a : ℕ) where
     pub past-end : period ≤ a → s ≡ laid q a s
     past-end h = begun-none s .is ∙ laid-is 0 (omega arith)
 
-    head-is : (n : ℕ) (ls : List ℕ) → n ≤ length s → ls ≡ wave q a (length (take n s)) → ls ≡ wave q a n
-    head-is n ls h is = is ∙ ap (wave q a) (length-take-le n s h)
-
-    pub head-laid : (n head : ℕ) (ls : List ℕ) → n ≡ min (length s) (period - a) → head ≡ n → ls ≡ wave q a (length (take head s)) → ls ++ drop head s ≡ laid q a s
-    head-laid n head ls e all is = rw (head-is head ls (omega arith) is, all) (laid-is n e)
-
-    pub on-laid : (n head : ℕ) (ls ms : List ℕ) → n ≡ min (length s) (period - a) → head ≤ n → ls ≡ wave q a (length (take head s))
-        → ms ≡ wave q (a + head) (length (take (n - head) (drop head (ls ++ drop head s))))
-        → take head (ls ++ drop head s) ++ (ms ++ drop (n - head) (drop head (ls ++ drop head s))) ≡ laid q a s
-    on-laid n head ls ms e h is then =
-        let first : Begun q a head (ls ++ drop head s) s = begun-by head _ s (omega arith) (ap (λ (w : List ℕ). w ++ drop head s) (head-is head ls (omega arith) is)) in
-        let room : length (take (n - head) (drop head (ls ++ drop head s))) ≡ n - head =
-        length-take-le (n - head) _ (omega (arith, length-drop head (ls ++ drop head s), first .size)) in
-        begun-more head n _ s ms first h (omega arith) (then ∙ ap (wave q (a + head)) room) .is ∙ laid-is n e
+    pub first-laid : (n : ℕ) (ls : List ℕ) → n ≡ min (length s) (period - a) → ls ≡ wave q a (length (take n s)) → ls ++ drop n s ≡ laid q a s
+    first-laid n ls e is = begun-first n ls (omega arith) is .is ∙ laid-is n e
 
 -- where the bytes are no more than the period has left
 pub laid-all : (q : Pair) (a : ℕ) (s : List ℕ) → a + length s ≤ period → laid q a s ≡ wave q a (length s)

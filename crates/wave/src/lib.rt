@@ -16,8 +16,8 @@ pub struct Pair {
     pub fine: u8,
 }
 
-// Lays the levels that a pair gives from a position on over the bytes lent, 1 for high and 0 for low, as far as the bytes and the period reach: first those
-// of the sub-period under way, where most calls of few clocks end.
+// Lays the levels that a pair gives from a position on over the bytes lent, 1 for high and 0 for low, as far as the bytes and the period reach. Most calls of
+// few clocks stay within a sub-period.
 pub fn lay(levels: &mut [u8], pair: Pair, from: usize)
     ensures { λ _. ⌜ now (levels .exit) ≡ laid pair from (now (levels .entry)) ⌝ }
 {
@@ -25,12 +25,12 @@ pub fn lay(levels: &mut [u8], pair: Pair, from: usize)
         return;
     }
     let n = least(levels.len(), PERIOD - from);
-    let head = least(n, SUB_PERIOD - from % SUB_PERIOD);
-    lay_within(&mut levels[..head], pair, from);
-    if n <= head {
+    let left = SUB_PERIOD - from % SUB_PERIOD;
+    if n <= left {
+        lay_within(&mut levels[..n], pair, from);
         return;
     }
-    lay_on(&mut levels[head..n], pair, from + head);
+    lay_across(&mut levels[..n], pair, from);
 }
 
 // Lays the levels that a pair gives from the period's first clock on.
@@ -38,10 +38,23 @@ pub fn lay_from_start(levels: &mut [u8], pair: Pair)
     ensures { λ _. ⌜ now (levels .exit) ≡ laid pair 0 (now (levels .entry)) ⌝ }
 {
     let n = least(levels.len(), PERIOD);
-    lay_on(&mut levels[..n], pair, 0);
+    lay_across(&mut levels[..n], pair, 0);
 }
 
-// The levels from the first clock of a sub-period on: whole sub-periods, with no call between them, and what is left.
+// The levels from any clock on: those of the sub-period under way, and then the others.
+fn lay_across(levels: &mut [u8], pair: Pair, from: usize)
+    requires { ⌜ (from < period) × (from + length (now levels) ≤ period) ⌝ }
+    ensures { λ _. ⌜ now (levels .exit) ≡ wave pair from (length (now (levels .entry))) ⌝ }
+{
+    let head = least(levels.len(), SUB_PERIOD - from % SUB_PERIOD);
+    lay_within(&mut levels[..head], pair, from);
+    if levels.len() <= head {
+        return;
+    }
+    lay_on(&mut levels[head..], pair, from + head);
+}
+
+// The levels from the first clock of a sub-period on: whole sub-periods, and what is left.
 fn lay_on(levels: &mut [u8], pair: Pair, from: usize)
     requires { ⌜ (from + length (now levels) ≤ period) × (from % subPeriod ≡ 0) ⌝ }
     ensures { λ _. ⌜ now (levels .exit) ≡ wave pair from (length (now (levels .entry))) ⌝ }
@@ -49,14 +62,29 @@ fn lay_on(levels: &mut [u8], pair: Pair, from: usize)
     let mut i = 0usize;
     while SUB_PERIOD <= levels.len() - i {
         let end = i + SUB_PERIOD;
-        let high = high_in(pair, (from + i) / SUB_PERIOD);
-        whole(&mut levels[i..end], ((from + i) % SUB_PERIOD) as u8, high);
+        let n = (from + i) / SUB_PERIOD;
+        let clock = ((from + i) % SUB_PERIOD) as u8;
+        sub_period(&mut levels[i..end], pair, n, clock);
         i = end;
     }
     if levels.len() <= i {
         return;
     }
     lay_within(&mut levels[i..], pair, from + i);
+}
+
+// The levels of the whole sub-period n: as many high clocks as the coarse half says, or one more. Each has a call of its own, so that what it writes is the
+// same each time, and the compiler makes it ready before the loop above.
+fn sub_period(levels: &mut [u8], pair: Pair, n: usize, clock: u8)
+    requires { ⌜ (length (now levels) ≡ subPeriod) × (n < subPeriods) × (clock ≡ 0) ⌝ }
+    ensures { λ _. ⌜ now (levels .exit) ≡ pulse 0 (highIn pair n) subPeriod ⌝ }
+{
+    let coarse = pair.coarse as usize;
+    if added(pair.fine, n) == 0 {
+        whole(levels, clock, least(coarse, SUB_PERIOD) as u8);
+        return;
+    }
+    whole(levels, clock, least(coarse + 1, SUB_PERIOD) as u8);
 }
 
 // The levels of clocks within one sub-period.

@@ -1,4 +1,4 @@
--- `wave::lay` meets its contract: the levels of the sub-period under way, and then those of the others.
+-- `wave::lay` meets its contract: as many levels as there are bytes, and none from the period's end on.
 -- Assumes nothing.
 use Prim.Native.Nat.{_-_, _≤_, min}
 use mathlib.Core.Path.{_≡_, sym}
@@ -7,7 +7,7 @@ use borrow.Author.Needs.{needs}
 use lib.ListN.{length, take}
 use lib.Seq.{length-take-le}
 use Rattle.wave.specs.Wave.{period}
-use Rattle.wave.proofs.Within.{past-end, head-laid, on-laid}
+use Rattle.wave.proofs.Within.{past-end, first-laid}
 use Rattle.wave.proofs.lay.Statement.{statement}
 use Rattle.wave.proofs.lay.Tie as tie
 
@@ -23,11 +23,8 @@ sub-least c = search needs
 least-requires : tie.Need-least-requires
 least-requires c κs = search needs
 
-sub-least-2 : tie.Need-sub-least-2
-sub-least-2 c = search needs
-
-least-requires-2 : tie.Need-least-requires-2
-least-requires-2 c κs = search needs
+sub-left : tie.Need-sub-left
+sub-left c = search needs
 
 slice-relend-prefix-lay-within : tie.Need-slice-relend-prefix-lay-within
 slice-relend-prefix-lay-within c = search needs
@@ -35,14 +32,14 @@ slice-relend-prefix-lay-within c = search needs
 slice-aggregate-lay-within : tie.Need-slice-aggregate-lay-within
 slice-aggregate-lay-within c =
     let s = (let p : tie.Start = search in p .args .levels .now) in
-    let head = (let p : tie.After-least2 = search in p .least2 .result) in
-    sym (length-take-le head s (omega arith))
+    let n = (let p : tie.After-least = search in p .least .result) in
+    sym (length-take-le n s (omega arith))
 
 lay-within-requires : tie.Need-lay-within-requires
 lay-within-requires c κs =
     let s = (let p : tie.Start = search in p .args .levels .now) in
-    let head = (let p : tie.After-least2 = search in p .least2 .result) in
-    let room : length (take head s) ≡ head = length-take-le head s (omega arith) in
+    let n = (let p : tie.After-least = search in p .least .result) in
+    let room : length (take n s) ≡ n = length-take-le n s (omega arith) in
     (omega arith, omega (arith, room))
 
 same-length : tie.Need-same-length
@@ -52,26 +49,25 @@ returns-2 : tie.Need-returns-2
 returns-2 c =
     let a = (let p : tie.Start = search in p .args) in
     let n = (let p : tie.After-least = search in p .least) in
+    let within = (let p : tie.After-lay-within = search in p .lay-within .ensures) in
     let reach : n .result ≡ min (length (a .levels .now)) (period - a .from) = omega (arith, n .ensures) in
-    let head = (let p : tie.After-least2 = search in p .least2) in
-    let first = (let p : tie.After-lay-within = search in p .lay-within .ensures) in
-    let all : head .result ≡ n .result = omega arith in
-    head-laid (a .pair) (a .from) (a .levels .now) (n .result) (head .result) _ reach all first
+    first-laid (a .pair) (a .from) (a .levels .now) (n .result) _ reach within
 
-sub-lay-on : tie.Need-sub-lay-on
-sub-lay-on c = search needs
+slice-relend-prefix-lay-across : tie.Need-slice-relend-prefix-lay-across
+slice-relend-prefix-lay-across c = search needs
 
-part-lay-on-start : tie.Need-part-lay-on-start
-part-lay-on-start c = search needs
+slice-aggregate-lay-across : tie.Need-slice-aggregate-lay-across
+slice-aggregate-lay-across c =
+    let s = (let p : tie.Start = search in p .args .levels .now) in
+    let n = (let p : tie.After-least = search in p .least .result) in
+    sym (length-take-le n s (omega arith))
 
-part-lay-on-end : tie.Need-part-lay-on-end
-part-lay-on-end c = search needs
-
-add-lay-on : tie.Need-add-lay-on
-add-lay-on c = search needs
-
-lay-on-requires : tie.Need-lay-on-requires
-lay-on-requires c κs = search needs
+lay-across-requires : tie.Need-lay-across-requires
+lay-across-requires c κs =
+    let s = (let p : tie.Start = search in p .args .levels .now) in
+    let n = (let p : tie.After-least = search in p .least .result) in
+    let room : length (take n s) ≡ n = length-take-le n s (omega arith) in
+    (omega arith, omega (arith, room))
 
 same-length-2 : tie.Need-same-length-2
 same-length-2 c = search needs
@@ -80,14 +76,12 @@ returns-3 : tie.Need-returns-3
 returns-3 c =
     let a = (let p : tie.Start = search in p .args) in
     let n = (let p : tie.After-least = search in p .least) in
+    let across = (let p : tie.After-lay-across = search in p .lay-across .ensures) in
     let reach : n .result ≡ min (length (a .levels .now)) (period - a .from) = omega (arith, n .ensures) in
-    let head = (let p : tie.After-least2 = search in p .least2) in
-    let first = (let p : tie.After-lay-within = search in p .lay-within .ensures) in
-    let others = (let p : tie.After-lay-on = search in p .lay-on .ensures) in
-    on-laid (a .pair) (a .from) (a .levels .now) (n .result) (head .result) _ _ reach (omega arith) first others
+    first-laid (a .pair) (a .from) (a .levels .now) (n .result) _ reach across
 
 pub lay-spec : {M : Type 1} → statement M
 lay-spec =
     tie.close
-    (tie.spec returns sub-least least-requires sub-least-2 least-requires-2 slice-relend-prefix-lay-within slice-aggregate-lay-within
-    lay-within-requires same-length returns-2 sub-lay-on part-lay-on-start part-lay-on-end add-lay-on lay-on-requires same-length-2 returns-3)
+    (tie.spec returns sub-least least-requires sub-left slice-relend-prefix-lay-within slice-aggregate-lay-within lay-within-requires same-length
+    returns-2 slice-relend-prefix-lay-across slice-aggregate-lay-across lay-across-requires same-length-2 returns-3)

@@ -1,14 +1,12 @@
 -- `wave::lay_on` meets its contract: after i bytes they are the wave from the first position on, and the others as they came.
 -- Assumes nothing.
-use Prim.Native.Nat.{ℕ, _+_, _-_, _/_, _%_}
-use mathlib.Core.Path.{_≡_, ap, sym, _∙_}
+use Prim.Native.Nat.{_+_, _-_, _%_}
+use mathlib.Core.Path.{_≡_, refl, sym}
 use native.Mathlib.Omega.{arith}
 use borrow.Author.Needs.{needs}
-use lib.ListN.{length, take, drop, length-drop}
-use lib.Seq.{length-take-le}
+use lib.ListN.{length}
 use Rattle.wave.specs.Wave.{wave}
-use Rattle.wave.specs.Steps.{highIn}
-use Rattle.wave.proofs.Within.{within-laid, Begun, begun-none, begun-more, begun-all}
+use Rattle.wave.proofs.Within.{within-laid, Begun, begun-none, begun-more, begun-all, begun-rest}
 use Rattle.wave.proofs.lay_on.Statement.{statement}
 use Rattle.wave.proofs.lay_on.Tie as tie
 
@@ -27,29 +25,26 @@ sub-loop c = search needs
 add-end : tie.Need-add-end Inv-loop μ-loop
 add-end c = search needs
 
-add-high-in : tie.Need-add-high-in Inv-loop μ-loop
-add-high-in c = search needs
+add-n : tie.Need-add-n Inv-loop μ-loop
+add-n c = search needs
 
-high-in-requires : tie.Need-high-in-requires Inv-loop μ-loop
-high-in-requires c κs = search needs
+add-clock : tie.Need-add-clock Inv-loop μ-loop
+add-clock c = search needs
 
-sub-whole : tie.Need-sub-whole Inv-loop μ-loop
-sub-whole c = search needs
+cast-clock : tie.Need-cast-clock Inv-loop μ-loop
+cast-clock c = search needs
 
-part-whole-start : tie.Need-part-whole-start Inv-loop μ-loop
-part-whole-start c = search needs
+sub-sub-period : tie.Need-sub-sub-period Inv-loop μ-loop
+sub-sub-period c = search needs
 
-part-whole-end : tie.Need-part-whole-end Inv-loop μ-loop
-part-whole-end c = search needs
+part-sub-period-start : tie.Need-part-sub-period-start Inv-loop μ-loop
+part-sub-period-start c = search needs
 
-add-whole : tie.Need-add-whole Inv-loop μ-loop
-add-whole c = search needs
+part-sub-period-end : tie.Need-part-sub-period-end Inv-loop μ-loop
+part-sub-period-end c = search needs
 
-cast-whole : tie.Need-cast-whole Inv-loop μ-loop
-cast-whole c = search needs
-
-whole-requires : tie.Need-whole-requires Inv-loop μ-loop
-whole-requires c κs = search needs
+sub-period-requires : tie.Need-sub-period-requires Inv-loop μ-loop
+sub-period-requires c κs = search needs
 
 loop-less : tie.Need-loop-less Inv-loop μ-loop
 loop-less c = search needs
@@ -58,13 +53,11 @@ loop-again : tie.Need-loop-again Inv-loop μ-loop
 loop-again c =
     let a = (let p : tie.Start Inv-loop μ-loop = search in p .args) in
     let l = (let p : tie.At-loop Inv-loop μ-loop = search in p .loop) in
-    let high = (let p : tie.After-high-in Inv-loop μ-loop = search in p .high-in) in
-    let laid = (let p : tie.After-whole Inv-loop μ-loop = search in p .whole) in
+    let laid = (let p : tie.After-sub-period Inv-loop μ-loop = search in p .sub-period) in
     let first : (a .from + l .i) % 128 ≡ 0 = omega arith in
-    let clocks : high .result ≡ highIn (a .pair) ((a .from + l .i) / 128) = omega (arith, high .ensures) in
     let one : l .i + 128 - l .i ≡ 128 = omega arith in
     let is : laid .last .0 ≡ wave (a .pair) (a .from + l .i) (l .i + 128 - l .i) =
-    rw one (within-laid (a .pair) (a .from + l .i) 0 _ 128 _ (sym first) clocks (omega arith) (laid .ensures)) in
+    rw one (within-laid (a .pair) (a .from + l .i) 0 _ 128 _ (sym first) refl (omega arith) (laid .ensures)) in
     (omega arith, begun-more (a .pair) (a .from) (l .i) (l .i + 128) (l .levels) _ _ (l .inv .1) (omega arith) (omega arith) is)
 
 same-length : tie.Need-same-length Inv-loop μ-loop
@@ -98,14 +91,11 @@ returns-2 c =
     let a = (let p : tie.Start Inv-loop μ-loop = search in p .args) in
     let l = (let p : tie.At-loop Inv-loop μ-loop = search in p .loop) in
     let laid = (let p : tie.After-lay-within Inv-loop μ-loop = search in p .lay-within) in
-    let n : ℕ = length (l .levels) in
-    let room : length (take (n - l .i) (drop (l .i) (l .levels))) ≡ n - l .i = length-take-le (n - l .i) (drop (l .i) (l .levels)) (omega (arith, length-drop (l .i) (l .levels))) in
-    let is : laid .last .0 ≡ wave (a .pair) (a .from + l .i) (n - l .i) = laid .ensures ∙ ap (wave (a .pair) (a .from + l .i)) room in
-    begun-all (a .pair) (a .from) n _ _ (omega arith) (begun-more (a .pair) (a .from) (l .i) n (l .levels) _ _ (l .inv .1) (omega arith) (omega arith) is)
+    begun-rest (a .pair) (a .from) (l .i) (l .levels) _ _ (l .inv .1) (laid .ensures)
 
 pub lay-on-spec : {M : Type 1} → statement M
 lay-on-spec =
     tie.close
-    (tie.spec Inv-loop μ-loop loop-holds sub-loop add-end add-high-in high-in-requires sub-whole part-whole-start part-whole-end add-whole cast-whole
-    whole-requires loop-less loop-again same-length returns sub-lay-within part-lay-within-start part-lay-within-end add-lay-within
+    (tie.spec Inv-loop μ-loop loop-holds sub-loop add-end add-n add-clock cast-clock sub-sub-period part-sub-period-start part-sub-period-end
+    sub-period-requires loop-less loop-again same-length returns sub-lay-within part-lay-within-start part-lay-within-end add-lay-within
     lay-within-requires same-length-2 returns-2)
