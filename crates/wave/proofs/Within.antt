@@ -117,6 +117,10 @@ as-pulse q a n h =
 pub within-laid : (q : Pair) (a i x n : ℕ) (ls : List ℕ) → i ≡ a % subPeriod → x ≡ highIn q (a / subPeriod) → a % subPeriod + n ≤ subPeriod → ls ≡ pulse i x n → ls ≡ wave q a n
 within-laid q a i x n ls clock high h is = is ∙ rw (clock, high) (sym (as-pulse q a n h))
 
+-- a whole sub-period, by its number
+pub sub-laid : (q : Pair) (a n : ℕ) (ls : List ℕ) → ls ≡ pulse 0 (highIn q n) subPeriod → n ≡ a / subPeriod → a % subPeriod ≡ 0 → ls ≡ wave q a subPeriod
+sub-laid q a n ls is which first = within-laid q a 0 (highIn q n) subPeriod ls (sym first) (ap (highIn q) which) (omega arith) is
+
 -- a part written behind the first elements xs: what is lent, and what the whole is after it
 module _ (xs s : List ℕ) (i k : ℕ) (long : length xs ≡ i) where
   pub behind : take k (drop i (xs ++ s)) ≡ take k s
