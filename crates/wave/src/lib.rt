@@ -24,12 +24,12 @@ pub fn lay(levels: &mut [u8], pair: Pair, from: usize)
     if PERIOD <= from {
         return;
     }
-    let n = least(levels.len(), PERIOD - from);
     let left = SUB_PERIOD - from % SUB_PERIOD;
-    if n <= left {
-        lay_within(&mut levels[..n], pair, from);
+    if levels.len() <= left {
+        lay_within(levels, pair, from);
         return;
     }
+    let n = least(levels.len(), PERIOD - from);
     lay_across(&mut levels[..n], pair, from);
 }
 

@@ -1,13 +1,13 @@
 -- `wave::lay` meets its contract: as many levels as there are bytes, and none from the period's end on.
 -- Assumes nothing.
-use Prim.Native.Nat.{_-_, _≤_, min}
-use mathlib.Core.Path.{_≡_, sym}
+use Prim.Native.Nat.{_+_, _-_, _≤_, min}
+use mathlib.Core.Path.{_≡_, sym, _∙_}
 use native.Mathlib.Omega.{arith}
 use borrow.Author.Needs.{needs}
 use lib.ListN.{length, take}
 use lib.Seq.{length-take-le}
 use Rattle.wave.specs.Wave.{period}
-use Rattle.wave.proofs.Within.{past-end, first-laid}
+use Rattle.wave.proofs.Within.{past-end, first-laid, laid-all}
 use Rattle.wave.proofs.lay.Statement.{statement}
 use Rattle.wave.proofs.lay.Tie as tie
 
@@ -17,30 +17,11 @@ returns c =
     let past : period ≤ a .from = omega arith in
     past-end (a .pair) (a .from) (a .levels .now) past
 
-sub-least : tie.Need-sub-least
-sub-least c = search needs
-
-least-requires : tie.Need-least-requires
-least-requires c κs = search needs
-
 sub-left : tie.Need-sub-left
 sub-left c = search needs
 
-slice-relend-prefix-lay-within : tie.Need-slice-relend-prefix-lay-within
-slice-relend-prefix-lay-within c = search needs
-
-slice-aggregate-lay-within : tie.Need-slice-aggregate-lay-within
-slice-aggregate-lay-within c =
-    let s = (let p : tie.Start = search in p .args .levels .now) in
-    let n = (let p : tie.After-least = search in p .least .result) in
-    sym (length-take-le n s (omega arith))
-
 lay-within-requires : tie.Need-lay-within-requires
-lay-within-requires c κs =
-    let s = (let p : tie.Start = search in p .args .levels .now) in
-    let n = (let p : tie.After-least = search in p .least .result) in
-    let room : length (take n s) ≡ n = length-take-le n s (omega arith) in
-    (omega arith, omega (arith, room))
+lay-within-requires c κs = (omega arith, omega arith)
 
 same-length : tie.Need-same-length
 same-length c = search needs
@@ -48,10 +29,15 @@ same-length c = search needs
 returns-2 : tie.Need-returns-2
 returns-2 c =
     let a = (let p : tie.Start = search in p .args) in
-    let n = (let p : tie.After-least = search in p .least) in
     let within = (let p : tie.After-lay-within = search in p .lay-within .ensures) in
-    let reach : n .result ≡ min (length (a .levels .now)) (period - a .from) = omega (arith, n .ensures) in
-    first-laid (a .pair) (a .from) (a .levels .now) (n .result) _ reach within
+    let inside : a .from + length (a .levels .now) ≤ period = omega arith in
+    within ∙ sym (laid-all (a .pair) (a .from) (a .levels .now) inside)
+
+sub-least : tie.Need-sub-least
+sub-least c = search needs
+
+least-requires : tie.Need-least-requires
+least-requires c κs = search needs
 
 slice-relend-prefix-lay-across : tie.Need-slice-relend-prefix-lay-across
 slice-relend-prefix-lay-across c = search needs
@@ -83,5 +69,5 @@ returns-3 c =
 pub lay-spec : {M : Type 1} → statement M
 lay-spec =
     tie.close
-    (tie.spec returns sub-least least-requires sub-left slice-relend-prefix-lay-within slice-aggregate-lay-within lay-within-requires same-length
-    returns-2 slice-relend-prefix-lay-across slice-aggregate-lay-across lay-across-requires same-length-2 returns-3)
+    (tie.spec returns sub-left lay-within-requires same-length returns-2 sub-least least-requires slice-relend-prefix-lay-across
+    slice-aggregate-lay-across lay-across-requires same-length-2 returns-3)
