@@ -35,10 +35,12 @@ static void find(void)
         for (int n = 0; n < DIRGEFLINT_SUB_PERIODS; n++)
             for (int clock = 0; clock < DIRGEFLINT_SUB_PERIOD; clock++)
                 if (levels[n][clock] == 1) {
-                    if (clock > 0 || serving[n] != NONE) {
-                        fprintf(stderr, "fine: bit %d alone makes clock %d of sub-period %d high\n", bit, clock, n);
+                    if (clock > 0)
+                        fprintf(stderr, "fine: bit %d makes clock %d of sub-period %d high\n", bit, clock, n);
+                    else if (serving[n] != NONE)
+                        fprintf(stderr, "fine: bits %d and %d both serve sub-period %d\n", serving[n], bit, n);
+                    if (clock > 0 || serving[n] != NONE)
                         exit(1);
-                    }
                     serving[n] = bit;
                 }
     }
@@ -81,7 +83,7 @@ static void tell(int bit)
 static void draw(unsigned coarse, unsigned fine)
 {
     unsigned high = 0;
-    int rows = 1;
+    int rows = 0, last = NONE;
     play(coarse, fine);
     for (int n = 0; n < DIRGEFLINT_SUB_PERIODS; n++)
         for (int clock = 0; clock < DIRGEFLINT_SUB_PERIOD; clock++)
@@ -89,6 +91,8 @@ static void draw(unsigned coarse, unsigned fine)
                 high++;
                 if (rows <= clock)
                     rows = clock + 1;
+                if (clock == (int)coarse)
+                    last = n;
             }
     printf("coarse %u, fine %u: high for %u of %d clocks\n", coarse, fine, high, DIRGEFLINT_PERIOD);
     if (rows < DIRGEFLINT_SUB_PERIOD)
@@ -100,12 +104,12 @@ static void draw(unsigned coarse, unsigned fine)
         putchar('\n');
     }
     printf("bit        ");
-    for (int n = 0; n < DIRGEFLINT_SUB_PERIODS; n++)
+    for (int n = 0; n <= last; n++)
         putchar(levels[n][coarse] == 1 && serving[n] != NONE ? '0' + serving[n] : ' ');
     printf("\nsub-period ");
-    for (int n = 0; n < DIRGEFLINT_SUB_PERIODS; n += 8)
+    for (int n = 0; n < DIRGEFLINT_SUB_PERIODS - 8; n += 8)
         printf("%-8d", n);
-    putchar('\n');
+    printf("%d\n", DIRGEFLINT_SUB_PERIODS - 8);
 }
 
 /* A half as a word: false if it is no number from 0 to 127. */
@@ -129,7 +133,7 @@ int main(int words, char **word)
         draw(coarse, fine);
     } else {
         fprintf(stderr, "usage: fine                which fine bit serves which sub-periods\n"
-                        "       fine COARSE FINE    a period of that pair; each half is a number from 0 to 127\n");
+                        "       fine COARSE FINE    a period of that pair; each half is a decimal number from 0 to 127\n");
         return 2;
     }
     return 0;

@@ -100,7 +100,7 @@ no-longer i x n h = go (decLt x subPeriod)
         rw e (all-high i x n (omega arith) ∙ sym (all-high i subPeriod n h))
 
 -- clock by clock
-pub pulse-is : (i x n : ℕ) → pulse i x n ≡ tabulate n (λ k. levelBelow (i + k) x)
+pulse-is : (i x n : ℕ) → pulse i x n ≡ tabulate n (λ k. levelBelow (i + k) x)
 unfolding tabulate
 pulse-is i x zero = sym (no-pulse i x)
 pulse-is i x (suc n) =
@@ -109,17 +109,17 @@ pulse-is i x (suc n) =
     (pulse-is (suc i) x n ∙ tabulate-same n _ _ (λ k h. let e : suc i + k ≡ i + suc k = omega arith in ap (λ (p : ℕ). levelBelow p x) e))
 
 -- the clocks of a sub-period by the position a of the first of them
-pub as-pulse : (q : Pair) (a n : ℕ) → a % subPeriod + n ≤ subPeriod → wave q a n ≡ pulse (a % subPeriod) (highIn q (a / subPeriod)) n
+as-pulse : (q : Pair) (a n : ℕ) → a % subPeriod + n ≤ subPeriod → wave q a n ≡ pulse (a % subPeriod) (highIn q (a / subPeriod)) n
 as-pulse q a n h =
     let e : a ≡ subPeriod * (a / subPeriod) + a % subPeriod = omega arith in
     ap (λ (p : ℕ). wave q p n) e ∙ within-sub q (a / subPeriod) n (a % subPeriod) h ∙ no-longer (a % subPeriod) (q .coarse + added (q .fine) (a / subPeriod)) n h
 
-pub within-laid : (q : Pair) (a i x n : ℕ) (ls : List ℕ) → i ≡ a % subPeriod → x ≡ highIn q (a / subPeriod) → a % subPeriod + n ≤ subPeriod → ls ≡ pulse i x n → ls ≡ wave q a n
-within-laid q a i x n ls clock high h is = is ∙ rw (clock, high) (sym (as-pulse q a n h))
+pub within-laid : (q : Pair) (a i x n : ℕ) (ls : List ℕ) → ls ≡ pulse i x n → i ≡ a % subPeriod → x ≡ highIn q (a / subPeriod) → a % subPeriod + n ≤ subPeriod → ls ≡ wave q a n
+within-laid q a i x n ls is clock high h = is ∙ rw (clock, high) (sym (as-pulse q a n h))
 
 -- a whole sub-period, by its number
 pub sub-laid : (q : Pair) (a n : ℕ) (ls : List ℕ) → ls ≡ pulse 0 (highIn q n) subPeriod → n ≡ a / subPeriod → a % subPeriod ≡ 0 → ls ≡ wave q a subPeriod
-sub-laid q a n ls is which first = within-laid q a 0 (highIn q n) subPeriod ls (sym first) (ap (highIn q) which) (omega arith) is
+sub-laid q a n ls is which first = within-laid q a 0 (highIn q n) subPeriod ls is (sym first) (ap (highIn q) which) (omega arith)
 
 -- a part written behind the first elements xs: what is lent, and what the whole is after it
 module _ (xs s : List ℕ) (i k : ℕ) (long : length xs ≡ i) where

@@ -73,8 +73,8 @@ fn lay_on(levels: &mut [u8], pair: Pair, from: usize)
     lay_within(&mut levels[i..], pair, from + i);
 }
 
-// The levels of the whole sub-period n: as many high clocks as the coarse half says, or one more. Each has a call of its own, so that what it writes is the
-// same each time, and the compiler makes it ready before the loop above.
+// The levels of the whole sub-period n: as many high clocks as the coarse half says, or one more. Each of the two kinds has a call of its own, so that what
+// is written is the same in every turn of the loop above, and the compiler makes it ready before the loop. The first clock is 0, as `whole` wants it.
 fn sub_period(levels: &mut [u8], pair: Pair, n: usize, clock: u8)
     requires { ⌜ (length (now levels) ≡ subPeriod) × (n < subPeriods) × (clock ≡ 0) ⌝ }
     ensures { λ _. ⌜ now (levels .exit) ≡ pulse 0 (highIn pair n) subPeriod ⌝ }

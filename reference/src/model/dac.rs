@@ -123,9 +123,9 @@ mod tests {
         assert_eq!(served(127), (1..128).collect::<Vec<u16>>());
     }
 
-    /// The rows of sheet 000's Table 39, which has more of them than sheet 004's Table 5 and sheet 002's Table 2; those agree with it, a clear bit
-    /// for a set one. Where a row leaves numbers out, the
-    /// printed ones go on by the step between its first two, in 111 1110 on either side of 64.
+    /// The rows of sheet 000's Table 39, which has more of them than sheet 004's Table 5 and sheet 002's Table 2; those
+    /// agree with it, a clear bit for a set one. Where a row leaves numbers out, the printed ones go on by the step
+    /// between its first two, in 111 1110 on either side of 64.
     #[test]
     fn fine_bits_serve_the_sub_periods_that_the_sheets_print() {
         let steps = |first: u16, second: u16, last: u16| (first..=last).step_by(usize::from(second - first)).collect();

@@ -1,7 +1,7 @@
 -- `wave::lay_within` meets its contract: the levels of one sub-period are a pulse.
 -- Assumes nothing.
 use Prim.Native.Nat.{_%_}
-use mathlib.Core.Path.{_≡_, refl, sym}
+use mathlib.Core.Path.{_≡_, sym}
 use native.Mathlib.Omega.{arith}
 use borrow.Author.Needs.{needs}
 use lib.ListN.{length}
@@ -28,7 +28,7 @@ returns c =
     let laid = (let p : tie.After-whole = search in p .whole .ensures) in
     let all : length (a .levels .now) ≡ 128 = omega arith in
     let first : a .from % 128 ≡ 0 = omega arith in
-    rw all (within-laid (a .pair) (a .from) 0 _ 128 _ (sym first) high (omega arith) laid)
+    rw all (within-laid (a .pair) (a .from) 0 _ 128 _ laid (sym first) high (omega arith))
 
 cast-stretch : tie.Need-cast-stretch
 cast-stretch c = search needs
@@ -44,7 +44,7 @@ returns-2 c =
     let a = (let p : tie.Start = search in p .args) in
     let high = (let p : tie.After-high-in = search in p .high-in .ensures) in
     let laid = (let p : tie.After-stretch = search in p .stretch .ensures) in
-    within-laid (a .pair) (a .from) (a .from % 128) _ (length (a .levels .now)) _ refl high (omega arith) laid
+    within-laid (a .pair) (a .from) _ _ (length (a .levels .now)) _ laid (omega arith) high (omega arith)
 
 pub lay-within-spec : {M : Type 1} → statement M
 lay-within-spec =
