@@ -100,7 +100,7 @@ no-longer i x n h = go (decLt x subPeriod)
         rw e (all-high i x n (omega arith) ∙ sym (all-high i subPeriod n h))
 
 -- clock by clock
-pulse-is : (i x n : ℕ) → pulse i x n ≡ tabulate n (λ k. levelBelow (i + k) x)
+pub pulse-is : (i x n : ℕ) → pulse i x n ≡ tabulate n (λ k. levelBelow (i + k) x)
 unfolding tabulate
 pulse-is i x zero = sym (no-pulse i x)
 pulse-is i x (suc n) =
@@ -116,10 +116,6 @@ as-pulse q a n h =
 
 pub within-laid : (q : Pair) (a i x n : ℕ) (ls : List ℕ) → ls ≡ pulse i x n → i ≡ a % subPeriod → x ≡ highIn q (a / subPeriod) → a % subPeriod + n ≤ subPeriod → ls ≡ wave q a n
 within-laid q a i x n ls is clock high h = is ∙ rw (clock, high) (sym (as-pulse q a n h))
-
--- a whole sub-period, by its number
-pub sub-laid : (q : Pair) (a n : ℕ) (ls : List ℕ) → ls ≡ pulse 0 (highIn q n) subPeriod → n ≡ a / subPeriod → a % subPeriod ≡ 0 → ls ≡ wave q a subPeriod
-sub-laid q a n ls is which first = within-laid q a 0 (highIn q n) subPeriod ls is (sym first) (ap (highIn q) which) (omega arith)
 
 -- a part written behind the first elements xs: what is lent, and what the whole is after it
 module _ (xs s : List ℕ) (i k : ℕ) (long : length xs ≡ i) where
@@ -154,15 +150,17 @@ module _ (q : Pair) (a : ℕ) where
   begun-none l = begun-by 0 l l (omega arith) refl
 
   -- a part is laid behind it, up to e
-  pub begun-more : (i e : ℕ) (l l₀ ys : List ℕ) → Begun q a i l l₀ → i ≤ e → e ≤ length l₀ → ys ≡ wave q (a + i) (e - i)
+  pub begun-more : (i e : ℕ) (l l₀ ys : List ℕ) → Begun q a i l l₀ → i ≤ e → e ≤ length l₀ → ys ≡ wave q (a + i) (length (take (e - i) (drop i l)))
       → Begun q a e (take i l ++ (ys ++ drop (e - i) (drop i l))) l₀
   begun-more i e l l₀ ys g on room is =
       let whole : i + (e - i) ≡ e = omega arith in
       let long : length (wave q a i) ≡ i = length-wave q a i in
+      let part : length (take (e - i) (drop i l)) ≡ e - i = length-take-le (e - i) (drop i l) (omega (arith, length-drop i l, g .size)) in
       let more : wave q a i ++ wave q (a + i) (e - i) ≡ wave q a e = sym (wave-add q a i (e - i)) ∙ ap (wave q a) whole in
+      let laid : ys ≡ wave q (a + i) (e - i) = is ∙ ap (wave q (a + i)) part in
       begun-by e _ l₀ room
       (rw (g .is) (put-behind (wave q a i) (drop i l₀) i (e - i) long ys
-      ∙ rw (drop-drop, whole, is) (sym (append-assoc (wave q a i) (wave q (a + i) (e - i)) (drop e l₀)) ∙ ap (λ (w : List ℕ). w ++ drop e l₀) more)))
+      ∙ rw (drop-drop, whole, laid) (sym (append-assoc (wave q a i) (wave q (a + i) (e - i)) (drop e l₀)) ∙ ap (λ (w : List ℕ). w ++ drop e l₀) more)))
 
   pub begun-all : (i : ℕ) (l l₀ : List ℕ) → length l₀ ≤ i → Begun q a i l l₀ → l ≡ wave q a (length l₀)
   begun-all i l l₀ h g =
@@ -173,9 +171,8 @@ module _ (q : Pair) (a : ℕ) where
   pub begun-rest : (i : ℕ) (l l₀ ys : List ℕ) → Begun q a i l l₀ → ys ≡ wave q (a + i) (length (take (length l - i) (drop i l)))
       → take i l ++ (ys ++ drop (length l - i) (drop i l)) ≡ wave q a (length l₀)
   begun-rest i l l₀ ys g is =
-      let room : length (take (length l - i) (drop i l)) ≡ length l - i = length-take-le (length l - i) (drop i l) (omega (arith, length-drop i l)) in
       begun-all (length l) _ l₀ (omega (arith, g .size))
-      (begun-more i (length l) l l₀ ys g (omega (arith, g .size, g .inside)) (omega (arith, g .size)) (is ∙ ap (wave q (a + i)) room))
+      (begun-more i (length l) l l₀ ys g (omega (arith, g .size, g .inside)) (omega (arith, g .size)) is)
 
   module _ (s : List ℕ) where
     -- a first part is laid

@@ -10,6 +10,9 @@ pub const PERIOD: usize = 16384;
 
 const SUB_PERIOD: usize = 128;
 
+// So many clocks, or more, are compared many at a time.
+const MANY: usize = 8;
+
 #[repr(C)]
 pub struct Pair {
     pub coarse: u8,
@@ -38,19 +41,21 @@ pub fn lay_from_start(levels: &mut [u8], pair: Pair)
     ensures { λ _. ⌜ now (levels .exit) ≡ laid pair 0 (now (levels .entry)) ⌝ }
 {
     let n = least(levels.len(), PERIOD);
-    lay_across(&mut levels[..n], pair, 0);
+    lay_on(&mut levels[..n], pair, 0);
 }
 
-// The levels from any clock on: those of the sub-period under way, and then the others.
+// The levels from any clock on, up to the end of its sub-period or further: those of the sub-period under way, if it has begun, and then the others.
 fn lay_across(levels: &mut [u8], pair: Pair, from: usize)
-    requires { ⌜ (from < period) × (from + length (now levels) ≤ period) ⌝ }
+    requires { ⌜ (from + length (now levels) ≤ period) × (subPeriod ≤ from % subPeriod + length (now levels)) ⌝ }
     ensures { λ _. ⌜ now (levels .exit) ≡ wave pair from (length (now (levels .entry))) ⌝ }
 {
-    let head = least(levels.len(), SUB_PERIOD - from % SUB_PERIOD);
-    lay_within(&mut levels[..head], pair, from);
-    if levels.len() <= head {
+    let begun = from % SUB_PERIOD;
+    if begun == 0 {
+        lay_on(levels, pair, from);
         return;
     }
+    let head = SUB_PERIOD - begun;
+    lay_within(&mut levels[..head], pair, from);
     lay_on(&mut levels[head..], pair, from + head);
 }
 
@@ -74,50 +79,54 @@ fn lay_on(levels: &mut [u8], pair: Pair, from: usize)
 }
 
 // The levels of the whole sub-period n: as many high clocks as the coarse half says, or one more. Each of the two kinds has a call of its own, so that what
-// is written is the same in every turn of the loop above, and the compiler makes it ready before the loop. The first clock is 0, as `whole` wants it.
+// is written is the same in every turn of the loop above, and the compiler makes it ready before the loop.
 fn sub_period(levels: &mut [u8], pair: Pair, n: usize, clock: u8)
-    requires { ⌜ (length (now levels) ≡ subPeriod) × (n < subPeriods) × (clock ≡ 0) ⌝ }
-    ensures { λ _. ⌜ now (levels .exit) ≡ pulse 0 (highIn pair n) subPeriod ⌝ }
+    requires { ⌜ (n < subPeriods) × (clock + length (now levels) ≤ subPeriod) ⌝ }
+    ensures { λ _. ⌜ now (levels .exit) ≡ pulse clock (highIn pair n) (length (now (levels .entry))) ⌝ }
 {
     let coarse = pair.coarse as usize;
     if added(pair.fine, n) == 0 {
-        whole(levels, clock, least(coarse, SUB_PERIOD) as u8);
+        many(levels, clock, least(coarse, SUB_PERIOD) as u8);
         return;
     }
-    whole(levels, clock, least(coarse + 1, SUB_PERIOD) as u8);
+    many(levels, clock, least(coarse + 1, SUB_PERIOD) as u8);
 }
 
-// The levels of clocks within one sub-period.
+// The levels of clocks within one sub-period. A whole one has a call of its own: there the compiler knows how many clocks it lays.
 fn lay_within(levels: &mut [u8], pair: Pair, from: usize)
     requires { ⌜ (from < period) × (from % subPeriod + length (now levels) ≤ subPeriod) ⌝ }
     ensures { λ _. ⌜ now (levels .exit) ≡ wave pair from (length (now (levels .entry))) ⌝ }
 {
     let clock = from % SUB_PERIOD;
     let high = high_in(pair, from / SUB_PERIOD);
-    if levels.len() == SUB_PERIOD {
-        whole(levels, clock as u8, high);
+    if levels.len() < MANY {
+        few(levels, clock, high as usize);
         return;
     }
-    stretch(levels, clock, high as usize);
+    if levels.len() == SUB_PERIOD {
+        many(levels, clock as u8, high);
+        return;
+    }
+    many(levels, clock as u8, high);
 }
 
-// The levels of a whole sub-period, clock by clock. The first clock is 0; it comes from the caller so that clocks are counted as bytes, and the
-// compiler compares many at a time.
-fn whole(levels: &mut [u8], clock: u8, high: u8)
-    requires { ⌜ (length (now levels) ≡ subPeriod) × (clock ≡ 0) ⌝ }
-    ensures { λ _. ⌜ now (levels .exit) ≡ pulse 0 high subPeriod ⌝ }
+// The levels from a clock of a sub-period on. Clocks are counted as bytes, so that the compiler compares many at a time; that the first one is 0 where a
+// whole sub-period is laid, it must not see, or it counts otherwise.
+fn many(levels: &mut [u8], clock: u8, high: u8)
+    requires { ⌜ clock + length (now levels) ≤ subPeriod ⌝ }
+    ensures { λ _. ⌜ now (levels .exit) ≡ pulse clock high (length (now (levels .entry))) ⌝ }
 {
     let mut c = clock;
     let mut i = 0usize;
-    while i < SUB_PERIOD {
+    while i < levels.len() {
         levels[i] = level_below(c as usize, high as usize);
         c += 1;
         i += 1;
     }
 }
 
-// The levels from a clock of a sub-period on, byte by byte: high up to the turn.
-fn stretch(levels: &mut [u8], clock: usize, high: usize)
+// The same, one by one: high up to the turn.
+fn few(levels: &mut [u8], clock: usize, high: usize)
     ensures { λ _. ⌜ now (levels .exit) ≡ pulse clock high (length (now (levels .entry))) ⌝ }
 {
     let turn = beyond(high, clock);

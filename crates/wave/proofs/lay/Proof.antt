@@ -53,7 +53,7 @@ lay-across-requires c κs =
     let s = (let p : tie.Start = search in p .args .levels .now) in
     let n = (let p : tie.After-least = search in p .least .result) in
     let room : length (take n s) ≡ n = length-take-le n s (omega arith) in
-    (omega arith, omega (arith, room))
+    (omega (arith, room), omega (arith, room))
 
 same-length-2 : tie.Need-same-length-2
 same-length-2 c = search needs

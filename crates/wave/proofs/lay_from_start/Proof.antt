@@ -14,21 +14,21 @@ use Rattle.wave.proofs.lay_from_start.Tie as tie
 least-requires : tie.Need-least-requires
 least-requires c κs = search needs
 
-slice-relend-prefix-lay-across : tie.Need-slice-relend-prefix-lay-across
-slice-relend-prefix-lay-across c = search needs
+slice-relend-prefix-lay-on : tie.Need-slice-relend-prefix-lay-on
+slice-relend-prefix-lay-on c = search needs
 
-slice-aggregate-lay-across : tie.Need-slice-aggregate-lay-across
-slice-aggregate-lay-across c =
+slice-aggregate-lay-on : tie.Need-slice-aggregate-lay-on
+slice-aggregate-lay-on c =
     let s = (let p : tie.Start = search in p .args .levels .now) in
     let n = (let p : tie.After-least = search in p .least .result) in
     sym (length-take-le n s (omega arith))
 
-lay-across-requires : tie.Need-lay-across-requires
-lay-across-requires c κs =
+lay-on-requires : tie.Need-lay-on-requires
+lay-on-requires c κs =
     let s = (let p : tie.Start = search in p .args .levels .now) in
     let n = (let p : tie.After-least = search in p .least .result) in
     let room : length (take n s) ≡ n = length-take-le n s (omega arith) in
-    (omega arith, omega (arith, room))
+    (omega (arith, room), omega arith)
 
 same-length : tie.Need-same-length
 same-length c = search needs
@@ -37,9 +37,9 @@ returns : tie.Need-returns
 returns c =
     let a = (let p : tie.Start = search in p .args) in
     let n = (let p : tie.After-least = search in p .least) in
-    let levels = (let p : tie.After-lay-across = search in p .lay-across .ensures) in
+    let levels = (let p : tie.After-lay-on = search in p .lay-on .ensures) in
     let reach : n .result ≡ min (length (a .levels .now)) (period - 0) = omega (arith, n .ensures) in
     first-laid (a .pair) 0 (a .levels .now) (n .result) _ reach levels
 
 pub lay-from-start-spec : {M : Type 1} → statement M
-lay-from-start-spec = tie.close (tie.spec least-requires slice-relend-prefix-lay-across slice-aggregate-lay-across lay-across-requires same-length returns)
+lay-from-start-spec = tie.close (tie.spec least-requires slice-relend-prefix-lay-on slice-aggregate-lay-on lay-on-requires same-length returns)

@@ -1,12 +1,12 @@
 -- `wave::lay_on` meets its contract: after i bytes they are the wave from the first position on, and the others as they came.
 -- Assumes nothing.
 use Prim.Native.Nat.{_+_, _-_, _%_}
-use mathlib.Core.Path.{_≡_}
+use mathlib.Core.Path.{_≡_, ap}
 use native.Mathlib.Omega.{arith}
 use borrow.Author.Needs.{needs}
 use lib.ListN.{length}
-use Rattle.wave.specs.Wave.{wave}
-use Rattle.wave.proofs.Within.{sub-laid, Begun, begun-none, begun-more, begun-all, begun-rest}
+use Rattle.wave.specs.Steps.{highIn}
+use Rattle.wave.proofs.Within.{within-laid, Begun, begun-none, begun-more, begun-all, begun-rest}
 use Rattle.wave.proofs.lay_on.Statement.{statement}
 use Rattle.wave.proofs.lay_on.Tie as tie
 
@@ -54,9 +54,7 @@ loop-again c =
     let a = (let p : tie.Start Inv-loop μ-loop = search in p .args) in
     let l = (let p : tie.At-loop Inv-loop μ-loop = search in p .loop) in
     let laid = (let p : tie.After-sub-period Inv-loop μ-loop = search in p .sub-period) in
-    let one : l .i + 128 - l .i ≡ 128 = omega arith in
-    let is : laid .last .0 ≡ wave (a .pair) (a .from + l .i) (l .i + 128 - l .i) =
-    rw one (sub-laid (a .pair) (a .from + l .i) _ _ (laid .ensures) (omega arith) (omega arith)) in
+    let is = within-laid (a .pair) (a .from + l .i) _ _ _ _ (laid .ensures) (omega arith) (ap (highIn (a .pair)) (omega arith)) (omega arith) in
     (omega arith, begun-more (a .pair) (a .from) (l .i) (l .i + 128) (l .levels) _ _ (l .inv .1) (omega arith) (omega arith) is)
 
 same-length : tie.Need-same-length Inv-loop μ-loop

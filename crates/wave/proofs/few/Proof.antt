@@ -1,4 +1,4 @@
--- `wave::stretch` meets its contract: a byte is high before the turn, so the bytes passed have the levels from the clock on.
+-- `wave::few` meets its contract: a byte is high before the turn, so the bytes passed have the levels from the clock on.
 -- Assumes nothing.
 use Prim.Native.Nat.{_-_, _≤_}
 use mathlib.Core.Path.{_∙_}
@@ -11,8 +11,8 @@ use Rattle.laws.specs.Lists.{tabulate}
 use Rattle.laws.proofs.Lists.{Filled, filled-none, filled-more, filled-all}
 use Rattle.wave.specs.Steps.{levelBelow}
 use Rattle.wave.proofs.Within.{turned}
-use Rattle.wave.proofs.stretch.Statement.{statement}
-use Rattle.wave.proofs.stretch.Tie as tie
+use Rattle.wave.proofs.few.Statement.{statement}
+use Rattle.wave.proofs.few.Tie as tie
 
 abbrev Inv-loop : tie.InvT-loop
 Inv-loop levels₀ clock high turn i₀ levels i = (i ≤ length levels₀) × Filled (λ k. levelBelow k turn) i levels levels₀
@@ -57,6 +57,6 @@ returns c =
     ∙ rw (drop-length s) (append-nil (tabulate (length s) (λ k. levelBelow k (turn .result))))
     ∙ turned (a .clock) (a .high) (turn .result) (length s) (turn .ensures)
 
-pub stretch-spec : {M : Type 1} → statement M
-stretch-spec =
+pub few-spec : {M : Type 1} → statement M
+few-spec =
     tie.close (tie.spec Inv-loop μ-loop beyond-requires loop-holds level-below-requires slice-write-levels add-i loop-less loop-again same-length returns)
