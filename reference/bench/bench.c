@@ -346,8 +346,11 @@ static void pack_glyphs(const face *f, int size)
 static const shape shapes[] = {
     { "pulse", "768 calls: each channel's period", pulse, 0, "pulse_level" },
     { "dac", "a period in one call", dac, PERIOD, "dac_play" },
+    { "dac", "a period in calls of 512 clocks", dac, 512, "dac_play" },
+    { "dac", "a period in calls of 256 clocks", dac, 256, "dac_play" },
     { "dac", "a period in calls of 128 clocks", dac, 128, "dac_play" },
     { "dac", "a period in calls of 100 clocks", dac, 100, "dac_play" },
+    { "dac", "a period in calls of 15 clocks", dac, 15, "dac_play" },
     { "dac", "a period in calls of 7 clocks", dac, 7, "dac_play" },
     { "dac", "a period in calls of 1 clock", dac, 1, "dac_play" },
     { "dac", "a reset and 500 pairs written", dac_writes, 500, "dac_reset dac_write_low dac_write_high" },
