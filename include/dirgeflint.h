@@ -153,8 +153,8 @@ dirgeflint_answer dirgeflint_pulse_level(uint32_t channel, uint8_t byte, uint32_
  *   value      64     32           16             8           4          2        1
  *   adds to    odd    2, 6, 10 ..  4, 12, 20 ..   8, 24 ..    16, 48 ..  32, 96   64       (of sub-periods 0 to 127; 0 never gets one)
  *
- * The rule behind it: bit 6 - z adds to the sub-periods other than 0 whose number ends in exactly z zero bits. 96 is 1100000 in binary
- * and ends in five, and 6 - 5 is 1: its clock is that of bit 1.
+ * The rule behind it: bit 6 - z, where it is 1, adds to the sub-periods other than 0 whose number ends in exactly z zero bits. 96 is
+ * 1100000 in binary and ends in five, and 6 - 5 is 1: its clock is that of bit 1.
  *
  * Writing takes two calls, the low (fine) half first: a low write is held, and a high write completes a pair with the fine half then
  * held. The pair completed last comes into force as the first clock of a period is played, and stays for that whole period: nothing

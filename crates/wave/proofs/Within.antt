@@ -168,11 +168,12 @@ module _ (q : Pair) (a : ℕ) where
       g .is ∙ rw (all, drop-length l₀) (append-nil (wave q a (length l₀)))
 
   -- the part behind it is laid, and that is all
-  pub begun-rest : (i : ℕ) (l l₀ ys : List ℕ) → Begun q a i l l₀ → ys ≡ wave q (a + i) (length (take (length l - i) (drop i l)))
+  pub begun-rest : (i b : ℕ) (l l₀ ys : List ℕ) → Begun q a i l l₀ → ys ≡ wave q b (length (take (length l - i) (drop i l))) → b ≡ a + i
       → take i l ++ (ys ++ drop (length l - i) (drop i l)) ≡ wave q a (length l₀)
-  begun-rest i l l₀ ys g is =
+  begun-rest i b l l₀ ys g is at =
+      let laid : ys ≡ wave q (a + i) (length (take (length l - i) (drop i l))) = rw (← at) is in
       begun-all (length l) _ l₀ (omega (arith, g .size))
-      (begun-more i (length l) l l₀ ys g (omega (arith, g .size, g .inside)) (omega (arith, g .size)) is)
+      (begun-more i (length l) l l₀ ys g (omega (arith, g .size, g .inside)) (omega (arith, g .size)) laid)
 
   module _ (s : List ℕ) where
     -- a first part is laid

@@ -1,4 +1,4 @@
-// The levels that a pair gives over a period of the DAC. A period is 128 sub-periods of 128 clocks, each of them high first and then low.
+// The levels that a pair gives over a period of the DAC. A period is 128 sub-periods of 128 clocks, and each sub-period is high first and then low.
 ghost use mathlib.Core.Path.{_≡_};
 ghost use Prim.Native.Nat.{_+_, _-_, _%_, _<_, _≤_, min};
 ghost use lib.ListN.{length};
@@ -10,17 +10,18 @@ pub const PERIOD: usize = 16384;
 
 const SUB_PERIOD: usize = 128;
 
-// So many clocks, or more, are compared many at a time.
+// From so many clocks of a sub-period on, `many` lays them, and below it `few`: as measured, the quickest.
 const MANY: usize = 8;
 
+// The halves, of 7 bits each, as the DAC keeps them. Of larger ones, a coarse half makes every clock high, and bit 7 of a fine half counts for nothing.
 #[repr(C)]
 pub struct Pair {
     pub coarse: u8,
     pub fine: u8,
 }
 
-// Lays the levels that a pair gives from a position on over the bytes lent, 1 for high and 0 for low, as far as the bytes and the period reach. Most calls of
-// few clocks stay within a sub-period.
+// Lays the levels that a pair gives from a position on over the bytes lent, 1 for high and 0 for low, as far as the bytes and the period reach. Calls
+// that stay within a sub-period, as most of few clocks do, are looked for first.
 pub fn lay(levels: &mut [u8], pair: Pair, from: usize)
     ensures { λ _. ⌜ now (levels .exit) ≡ laid pair from (now (levels .entry)) ⌝ }
 {
@@ -36,7 +37,7 @@ pub fn lay(levels: &mut [u8], pair: Pair, from: usize)
     lay_across(&mut levels[..n], pair, from);
 }
 
-// Lays the levels that a pair gives from the period's first clock on.
+// The same from the period's first clock on, where none of the tests is needed.
 pub fn lay_from_start(levels: &mut [u8], pair: Pair)
     ensures { λ _. ⌜ now (levels .exit) ≡ laid pair 0 (now (levels .entry)) ⌝ }
 {
@@ -44,7 +45,8 @@ pub fn lay_from_start(levels: &mut [u8], pair: Pair)
     lay_on(&mut levels[..n], pair, 0);
 }
 
-// The levels from any clock on, up to the end of its sub-period or further: those of the sub-period under way, if it has begun, and then the others.
+// The levels from any clock on, up to the end of its sub-period or further: those that are left of a sub-period under way, and then the others. What begins
+// with a sub-period has none left over, and goes straight to the loop over whole ones.
 fn lay_across(levels: &mut [u8], pair: Pair, from: usize)
     requires { ⌜ (from + length (now levels) ≤ period) × (subPeriod ≤ from % subPeriod + length (now levels)) ⌝ }
     ensures { λ _. ⌜ now (levels .exit) ≡ wave pair from (length (now (levels .entry))) ⌝ }
@@ -68,6 +70,7 @@ fn lay_on(levels: &mut [u8], pair: Pair, from: usize)
     while SUB_PERIOD <= levels.len() - i {
         let end = i + SUB_PERIOD;
         let n = (from + i) / SUB_PERIOD;
+        // 0, but the compiler must not see it: `many` tells why
         let clock = ((from + i) % SUB_PERIOD) as u8;
         sub_period(&mut levels[i..end], pair, n, clock);
         i = end;
@@ -78,8 +81,8 @@ fn lay_on(levels: &mut [u8], pair: Pair, from: usize)
     lay_within(&mut levels[i..], pair, from + i);
 }
 
-// The levels of the whole sub-period n: as many high clocks as the coarse half says, or one more. Each of the two kinds has a call of its own, so that what
-// is written is the same in every turn of the loop above, and the compiler makes it ready before the loop.
+// The levels of sub-period n from a clock on: as many high clocks as the coarse half says, or one more. Each of the two kinds has a call of its own, so that
+// its levels are the same in every turn of the loop above, and the compiler makes both ready before the loop.
 fn sub_period(levels: &mut [u8], pair: Pair, n: usize, clock: u8)
     requires { ⌜ (n < subPeriods) × (clock + length (now levels) ≤ subPeriod) ⌝ }
     ensures { λ _. ⌜ now (levels .exit) ≡ pulse clock (highIn pair n) (length (now (levels .entry))) ⌝ }
@@ -110,8 +113,8 @@ fn lay_within(levels: &mut [u8], pair: Pair, from: usize)
     many(levels, clock as u8, high);
 }
 
-// The levels from a clock of a sub-period on. Clocks are counted as bytes, so that the compiler compares many at a time; that the first one is 0 where a
-// whole sub-period is laid, it must not see, or it counts otherwise.
+// The levels from a clock of a sub-period on. Clocks are counted as bytes, so that the compiler compares many at a time. If it saw that the first one is 0
+// where a whole sub-period is laid, it would count in 64 bits, and the loop would take five times as long.
 fn many(levels: &mut [u8], clock: u8, high: u8)
     requires { ⌜ clock + length (now levels) ≤ subPeriod ⌝ }
     ensures { λ _. ⌜ now (levels .exit) ≡ pulse clock high (length (now (levels .entry))) ⌝ }
@@ -125,7 +128,7 @@ fn many(levels: &mut [u8], clock: u8, high: u8)
     }
 }
 
-// The same, one by one: high up to the turn.
+// The same for a few clocks: those before the turn are high.
 fn few(levels: &mut [u8], clock: usize, high: usize)
     ensures { λ _. ⌜ now (levels .exit) ≡ pulse clock high (length (now (levels .entry))) ⌝ }
 {
@@ -153,9 +156,9 @@ fn high_in(pair: Pair, n: usize) -> u8
     least(pair.coarse as usize + more as usize, SUB_PERIOD) as u8
 }
 
-// The clock, 1 or 0, that a fine half adds to sub-period n: if n ends in exactly z zero bits, it is fine bit 6 - z. Bit b so serves 2 ^ b sub-periods,
-// as many as it is worth. Why bit 1 serves sub-period 96: in binary 96 is 1100000, it ends in five zero bits, and 6 - 5 is 1. Sub-period 0 has no bit
-// set at which its zeros would end, and no fine bit serves it.
+// The clock, 1 or 0, that a fine half adds to sub-period n. The number n has seven bits; if it ends in exactly z zero bits, z from 0 to 6, the clock is fine
+// bit 6 - z: bit 6 for the odd numbers, and so on down to bit 0 for 64. Bit b so serves 2 ^ b sub-periods, as many as it is worth. Why bit 1 serves sub-period
+// 96: in binary 96 is 1100000, it ends in five zero bits, and 6 - 5 is 1. Sub-period 0 has no bit set at which its zeros would end, and no fine bit serves it.
 fn added(fine: u8, n: usize) -> u8
     requires { ⌜ n < subPeriods ⌝ }
     ensures { λ r. ⌜ r ≡ addedOf fine n ⌝ }

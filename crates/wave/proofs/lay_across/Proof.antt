@@ -53,7 +53,7 @@ add-lay-on : tie.Need-add-lay-on
 add-lay-on c = search needs
 
 lay-on-requires-2 : tie.Need-lay-on-requires-2
-lay-on-requires-2 c κs = search needs
+lay-on-requires-2 c κs = (omega arith, omega arith)
 
 same-length-2 : tie.Need-same-length-2
 same-length-2 c = search needs
@@ -64,7 +64,7 @@ returns-2 c =
     let first = (let p : tie.After-lay-within = search in p .lay-within .ensures) in
     let others = (let p : tie.After-lay-on2 = search in p .lay-on2 .ensures) in
     let begun = begun-first (a .pair) (a .from) (a .levels .now) (head (a .from)) _ (omega arith) first in
-    begun-rest (a .pair) (a .from) (head (a .from)) _ (a .levels .now) _ begun others
+    begun-rest (a .pair) (a .from) (head (a .from)) _ _ (a .levels .now) _ begun others (omega arith)
 
 pub lay-across-spec : {M : Type 1} → statement M
 lay-across-spec =

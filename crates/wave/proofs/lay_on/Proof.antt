@@ -88,7 +88,7 @@ returns-2 c =
     let a = (let p : tie.Start Inv-loop μ-loop = search in p .args) in
     let l = (let p : tie.At-loop Inv-loop μ-loop = search in p .loop) in
     let laid = (let p : tie.After-lay-within Inv-loop μ-loop = search in p .lay-within) in
-    begun-rest (a .pair) (a .from) (l .i) (l .levels) _ _ (l .inv .1) (laid .ensures)
+    begun-rest (a .pair) (a .from) (l .i) _ (l .levels) _ _ (l .inv .1) (laid .ensures) (omega arith)
 
 pub lay-on-spec : {M : Type 1} → statement M
 lay-on-spec =
