@@ -79,7 +79,7 @@ static void tell(int bit)
     putchar('\n');
 }
 
-/* A column for each sub-period, as high as it has high clocks; below it, if it has one more than the others, the bit that added it. */
+/* A column for each sub-period, as high as it has high clocks; below it, if it has one more than the coarse half says, the bit that added it. */
 static void draw(unsigned coarse, unsigned fine)
 {
     unsigned high = 0;
