@@ -12,11 +12,12 @@ use lib.ListN.{length, take, drop, length-drop}
 use lib.Seq.{take-at, drop-at, length-take-le}
 use borrow.Author.Tests.{eq-eqb, ne-eqb}
 use Rattle.laws.specs.Pick.{pick}
+use Rattle.laws.specs.Sums.{sumAll}
 use Rattle.wave.specs.declared.Pair.{Pair}
-use Rattle.wave.specs.Wave.{period, level, wave, over, laid}
-use Rattle.wave.proofs.Within.{length-wave, behind, put-behind, laid-all, laid-cut}
+use Rattle.wave.specs.Wave.{period, level, wave, over, waveIn, laid}
+use Rattle.wave.proofs.Within.{length-wave, sum-wave-le, behind, put-behind, in-all, laid-all, laid-cut}
 use Rattle.dac.specs.declared.Dac.{Dac}
-use Rattle.dac.specs.Running.{halves, keptPair, dacOf, kept, playing, nextLevel, clocked, afterClocks, levelsOf}
+use Rattle.dac.specs.Running.{halves, keptPair, keptCount, dacOf, kept, playing, nextLevel, soFar, clocked, afterClocks, levelsOf}
 
 -- Kept values are kept as they are.
 pub pair-kept : (q : Pair) → q .coarse < halves → q .fine < halves → keptPair q ≡ q
@@ -44,9 +45,25 @@ pub later-plays : (d : Dac) → 0 < d .position → playing d ≡ d .in_force
 unfolding playing
 later-plays d h = rw (ne-eqb (d .position) 0 (λ e. omega arith))
 
--- the record m clocks on, in the same period
+pub first-so-far : (d : Dac) → d .position ≡ 0 → soFar d ≡ 0
+unfolding soFar
+first-so-far d e = rw (eq-eqb (d .position) 0 e)
+
+pub later-so-far : (d : Dac) → 0 < d .position → soFar d ≡ d .high
+unfolding soFar
+later-so-far d h = rw (ne-eqb (d .position) 0 (λ e. omega arith))
+
+-- the high clocks that the next m clocks make, in the same period, and the record after them
+counted : Dac → ℕ → ℕ
+counted k m = keptCount (soFar k + sumAll (wave (playing k) (k .position) m))
+
 moved : Dac → ℕ → Dac
-moved d m = dacOf ((kept d .position + m) % period) (kept d .held) (kept d .completed) (playing (kept d))
+moved d m = dacOf ((kept d .position + m) % period) (kept d .held) (kept d .completed) (playing (kept d)) (counted (kept d) m)
+
+-- the first of them, and the others
+count-next : (k : Dac) (m : ℕ) → counted k (suc m) ≡ keptCount (soFar k + nextLevel k + sumAll (wave (playing k) (suc (k .position)) m))
+unfolding counted nextLevel wave sumAll
+count-next k m = omega arith
 
 -- one clock on, with the period not yet over
 module _ (d : Dac) (more : kept d .position + 1 < period) where
@@ -58,19 +75,31 @@ module _ (d : Dac) (more : kept d .position + 1 < period) where
   unfolding clocked
   playing-on = later-plays (kept (clocked (kept d))) (omega arith) ∙ playing-kept d
 
+  so-far-on : soFar (kept (clocked (kept d))) ≡ keptCount (soFar (kept d) + nextLevel (kept d))
+  unfolding clocked
+  so-far-on = later-so-far (kept (clocked (kept d))) (omega (arith, position-on)) ∙ omega arith
+
+  counted-on : (m : ℕ) → counted (kept (clocked (kept d))) m ≡ counted (kept d) (suc m)
+  unfolding counted
+  counted-on m =
+      ap₂ (λ (q : Pair) (p : ℕ). keptCount (soFar (kept (clocked (kept d))) + sumAll (wave q p m))) playing-on position-on
+      ∙ omega (arith, so-far-on, count-next (kept d) m)
+
   moved-on : (m : ℕ) → moved (clocked (kept d)) m ≡ moved d (suc m)
   unfolding moved clocked
   moved-on m =
       let e : (kept (clocked (kept d)) .position + m) % period ≡ (kept d .position + suc m) % period = omega arith in
-      λ i. dacOf (e i) (keptPair-kept (d .held) i) (keptPair-kept (d .completed) i) (playing-on i)
+      λ i. dacOf (e i) (keptPair-kept (d .held) i) (keptPair-kept (d .completed) i) (playing-on i) (counted-on m i)
 
 level-next : (d : Dac) → nextLevel d ≡ level (playing d) (d .position)
 unfolding nextLevel
 level-next d = refl
 
 one-moved : (d : Dac) → clocked (kept d) ≡ moved d 1
-unfolding clocked moved
-one-moved d = refl
+unfolding clocked moved wave sumAll
+one-moved d =
+    let e : keptCount (soFar (kept d) + nextLevel (kept d)) ≡ counted (kept d) 1 = omega (arith, count-next (kept d) 0) in
+    ap (λ (n : ℕ). dacOf ((kept d .position + 1) % period) (kept d .held) (kept d .completed) (playing (kept d)) n) e
 
 levels-within : (m : ℕ) (d : Dac) → kept d .position + m ≤ period → levelsOf m d ≡ wave (playing (kept d)) (kept d .position) m
 unfolding levelsOf wave
@@ -89,8 +118,7 @@ after-moved (suc n) d h =
     after-moved n (clocked (kept d)) (omega (arith, position-on d more)) ∙ moved-on d more (suc n)
 
 after-within : (m : ℕ) (d : Dac) → 0 < m → kept d .position + m ≤ period
-    → afterClocks m d ≡ dacOf ((kept d .position + m) % period) (kept d .held) (kept d .completed) (playing (kept d))
-unfolding moved
+    → afterClocks m d ≡ moved d m
 after-within zero d some h = absurd (omega arith)
 after-within (suc m) d some h = after-moved m d h
 
@@ -116,29 +144,34 @@ over-levels c d s ls e = rw (length-levels c d, e)
 pub position-small : (d k : Dac) → k ≡ kept d → k .position < period
 position-small d k is = let p : k .position ≡ kept d .position = ap (λ (x : Dac). x .position) is in omega arith
 
--- What `run` finds for a record: its kept form k, and the pair q by which the next clock is played. A play that ends within the period under way:
+-- What `run` finds for a record: its kept form k, the pair q by which the next clock is played, and the high clocks b before it. A play that ends within
+-- the period under way:
 module _ (d k : Dac) (q : Pair) (is : k ≡ kept d) (plays : q ≡ playing k) (c : ℕ) (s : List ℕ) (room : c ≤ length s) where
   long : length (take c s) ≡ c
   long = length-take-le c s room
 
-  pub run-within : (ls : List ℕ) → 0 < c → k .position + c ≤ period → ls ≡ laid q (k .position) (take c s)
-      → (dacOf ((k .position + c) % period) (k .held) (k .completed) q ≡ afterClocks c d) × (ls ++ drop c s ≡ over (levelsOf c d) s)
-  run-within ls some fits e =
+  pub run-within : (b r n : ℕ) (ls : List ℕ) → 0 < c → k .position + c ≤ period → b ≡ soFar k → r ≡ sumAll (waveIn q (k .position) (length (take c s))) → n ≡ keptCount (b + r)
+      → ls ≡ laid q (k .position) (take c s)
+      → (dacOf ((k .position + c) % period) (k .held) (k .completed) q n ≡ afterClocks c d) × (ls ++ drop c s ≡ over (levelsOf c d) s)
+  unfolding moved counted
+  run-within b r n ls some fits before more total e =
       let p : k .position ≡ kept d .position = ap (λ (x : Dac). x .position) is in
       let f : ls ≡ levelsOf c d = e ∙ laid-all q (k .position) (take c s) (omega (arith, long)) ∙ rw (long, plays, is) (sym (levels-within c d (omega arith))) in
-      (rw (plays, is) (sym (after-within c d some (omega arith))), over-levels c d s ls f)
+      let sum : r ≡ sumAll (wave q (k .position) c) = more ∙ ap sumAll (in-all q (k .position) (length (take c s)) (omega (arith, long))) ∙ ap (λ (m : ℕ). sumAll (wave q (k .position) m)) long in
+      let high : n ≡ keptCount (soFar k + sumAll (wave q (k .position) c)) = omega arith in
+      (rw (high, plays, is) (sym (after-within c d some (omega arith))), over-levels c d s ls f)
 
   -- and one that goes on in the next, after the clocks that are left
   module _ (left : ℕ) (rest : left ≡ period - k .position) (past : left < c) (most : c ≤ period) where
     next : Dac
-    next = dacOf 0 (kept d .held) (kept d .completed) (playing (kept d))
+    next = dacOf 0 (kept d .held) (kept d .completed) (playing (kept d)) (counted (kept d) left)
 
     at-end : afterClocks left d ≡ next
-    unfolding next
+    unfolding next moved
     at-end =
         let p : k .position ≡ kept d .position = ap (λ (x : Dac). x .position) is in
         let z : (kept d .position + left) % period ≡ 0 = omega arith in
-        after-within left d (omega arith) (omega arith) ∙ ap (λ (n : ℕ). dacOf n (kept d .held) (kept d .completed) (playing (kept d))) z
+        after-within left d (omega arith) (omega arith) ∙ ap (λ (n : ℕ). dacOf n (kept d .held) (kept d .completed) (playing (kept d)) (counted (kept d) left)) z
 
     loaded : playing (kept next) ≡ kept d .completed
     unfolding next
@@ -148,13 +181,22 @@ module _ (d k : Dac) (q : Pair) (is : k ≡ kept d) (plays : q ≡ playing k) (c
     unfolding next
     next-levels = levels-within (c - left) next (omega arith) ∙ ap (λ (p : Pair). wave p 0 (c - left)) loaded
 
-    next-after : afterClocks (c - left) next ≡ dacOf ((kept d .position + c) % period) (kept d .held) (kept d .completed) (kept d .completed)
-    unfolding next
+    -- the count starts anew, and does not come to as many as there are
+    next-counted : counted (kept next) (c - left) ≡ sumAll (wave (kept d .completed) 0 (c - left))
+    unfolding next counted
+    next-counted =
+        let p : k .position ≡ kept d .position = ap (λ (x : Dac). x .position) is in
+        ap (λ (p : Pair). keptCount (soFar (kept next) + sumAll (wave p 0 (c - left)))) loaded
+        ∙ omega (arith, first-so-far (kept next) refl, sum-wave-le (kept d .completed) 0 (c - left))
+
+    next-after : afterClocks (c - left) next
+        ≡ dacOf ((kept d .position + c) % period) (kept d .held) (kept d .completed) (kept d .completed) (sumAll (wave (kept d .completed) 0 (c - left)))
+    unfolding next moved
     next-after =
         let p : k .position ≡ kept d .position = ap (λ (x : Dac). x .position) is in
         let z : (0 % period + (c - left)) % period ≡ (kept d .position + c) % period = omega arith in
         after-within (c - left) next (omega arith) (omega arith)
-        ∙ (λ i. dacOf (z i) (keptPair-kept (d .held) i) (keptPair-kept (d .completed) i) (loaded i))
+        ∙ (λ i. dacOf (z i) (keptPair-kept (d .held) i) (keptPair-kept (d .completed) i) (loaded i) (next-counted i))
 
     -- the first part lent, and what is lent of it again
     tail : List ℕ
@@ -164,11 +206,13 @@ module _ (d k : Dac) (q : Pair) (is : k ≡ kept d) (plays : q ≡ playing k) (c
     unfolding tail
     long-tail = omega (arith, length-drop left (take c s), long)
 
-    pub run-across : (ls ms : List ℕ) → ls ≡ laid q (k .position) (take c s) → ms ≡ laid (k .completed) 0 (take (c - left) (drop left (ls ++ drop c s)))
-        → (dacOf ((k .position + c) % period) (k .held) (k .completed) (k .completed) ≡ afterClocks c d)
+    pub run-across : (r n : ℕ) (ls ms : List ℕ) → ls ≡ laid q (k .position) (take c s)
+        → r ≡ sumAll (waveIn (k .completed) 0 (length (take (c - left) (drop left (ls ++ drop c s))))) → n ≡ r
+        → ms ≡ laid (k .completed) 0 (take (c - left) (drop left (ls ++ drop c s)))
+        → (dacOf ((k .position + c) % period) (k .held) (k .completed) (k .completed) n ≡ afterClocks c d)
         × (take left (ls ++ drop c s) ++ (ms ++ drop (c - left) (drop left (ls ++ drop c s))) ≡ over (levelsOf c d) s)
     unfolding tail
-    run-across ls ms e f =
+    run-across r n ls ms e anew total f =
         let whole : left + (c - left) ≡ c = omega arith in
         let p : k .position ≡ kept d .position = ap (λ (x : Dac). x .position) is in
         let xs : List ℕ = wave q (k .position) left in
@@ -181,9 +225,11 @@ module _ (d k : Dac) (q : Pair) (is : k ≡ kept d) (plays : q ≡ playing k) (c
         let b : ms ≡ levelsOf (c - left) (afterClocks left d) =
         f ∙ ap (laid (k .completed) 0) lent ∙ laid-all (k .completed) 0 tail (omega (arith, long-tail)) ∙ rw (long-tail, is, at-end) (sym next-levels) in
         let all : xs ++ ms ≡ levelsOf c d = ap₂ (λ (x y : List ℕ). x ++ y) a b ∙ sym (levels-split left (c - left) d) ∙ ap (λ (n : ℕ). levelsOf n d) whole in
-        let r : afterClocks c d ≡ dacOf ((kept d .position + c) % period) (kept d .held) (kept d .completed) (kept d .completed) =
+        let high : n ≡ sumAll (wave (k .completed) 0 (c - left)) =
+        total ∙ anew ∙ ap (λ (t : List ℕ). sumAll (waveIn (k .completed) 0 (length t))) lent ∙ rw long-tail (ap sumAll (in-all (k .completed) 0 (c - left) (omega arith))) in
+        let r : afterClocks c d ≡ dacOf ((kept d .position + c) % period) (kept d .held) (kept d .completed) (kept d .completed) (sumAll (wave (kept d .completed) 0 (c - left))) =
         ap (λ (n : ℕ). afterClocks n d) (sym whole) ∙ after-split left (c - left) d ∙ ap (λ (x : Dac). afterClocks (c - left) x) at-end ∙ next-after in (
-          rw is (sym r),
+          rw (high, is) (sym r),
           rw cut (put-behind xs (tail ++ drop c s) left (c - left) lx ms ∙ rw (drop-at tail (drop c s) (c - left) long-tail)
               (sym (append-assoc xs ms (drop c s)) ∙ over-levels c d s (xs ++ ms) all)),
         )

@@ -15,10 +15,10 @@ use Rattle.dac.proofs.play as play
 
 -- the case of which this is said
 abbrev meant : Said → Played
-meant s = pick (eqb (s .number) 14) TooMany All
+meant s = pick (eqb (s .number) 14) TooMany (All (s .value))
 
 meant-said : (x : Played) → meant (said x) ≡ x
-meant-said All = refl
+meant-said (All high) = refl
 meant-said TooMany = refl
 
 pub fresh-unique : Determines fresh.ended (λ w. fresh.clauses (w .𝓤) (w .H) (w .𝓖 .A) (w .𝓜 .mem) (w .𝓡 .run))

@@ -11,15 +11,16 @@ use Rattle.dac.specs.declared.Dac.{Dac}
 use Rattle.dac.specs.declared.Played.{Played}
 use Rattle.dac.specs.declared.Played.the-variants.{All, TooMany}
 use Rattle.wave.specs.Wave.{period, over}
-use Rattle.dac.specs.Running.{afterClocks, levelsOf}
+use Rattle.dac.specs.Running.{keptCount, afterClocks, levelsOf}
 
 -- more clocks than a period has, or than bytes are lent
 abbrev pub tooMany : ℕ → ℕ → Bool
 tooMany clocks room = ltb period clocks || ltb room clocks
 
--- what a play answers
-unfoldable pub answerOf : ℕ → ℕ → Said
-answerOf clocks room = pick (tooMany clocks room) (refused 14 0) (accepted 0)
+-- What a play answers: the high clocks since the latest first clock of a period, as the record counts them after it. One of no clocks answers them
+-- too, though it leaves a record that the host made up as it came.
+unfoldable pub answerOf : Dac → ℕ → ℕ → Said
+answerOf d clocks room = pick (tooMany clocks room) (refused 14 0) (accepted (keptCount (afterClocks clocks d .high)))
 
 -- the record after a play, and the levels that it puts out: a refused one leaves the record as handed over and puts out none
 unfoldable pub afterPlay : Dac → ℕ → ℕ → Dac
@@ -34,5 +35,5 @@ lentAfter d clocks lent = over (levelsPlayed d clocks (length lent)) lent
 
 -- document 01's number, place and value for each answer
 abbrev pub said : Played → Said
-said All = accepted 0
+said (All high) = accepted high
 said TooMany = refused 14 0

@@ -19,38 +19,52 @@ keptHalf byte = byte % halves
 abbrev pub keptPair : Pair → Pair
 keptPair q = pair (keptHalf (q .coarse)) (keptHalf (q .fine))
 
-abbrev pub dacOf : ℕ → Pair → Pair → Pair → Dac
-dacOf p h c f = record { position = p; held = h; completed = c; in_force = f }
+-- how many counts of high clocks there are: no pair of kept halves asks for more than 16,383 in a period
+abbrev pub counts : ℕ
+counts = 16384
+
+abbrev pub keptCount : ℕ → ℕ
+keptCount n = n % counts
+
+-- The record by its parts: the position, the halves held, the pair completed last, the pair in force, and the high clocks since the latest first
+-- clock of a period (M-104).
+abbrev pub dacOf : ℕ → Pair → Pair → Pair → ℕ → Dac
+dacOf p h c f n = record { position = p; held = h; completed = c; in_force = f; high = n }
 
 abbrev pub kept : Dac → Dac
-kept d = dacOf (d .position % period) (keptPair (d .held)) (keptPair (d .completed)) (keptPair (d .in_force))
+kept d = dacOf (d .position % period) (keptPair (d .held)) (keptPair (d .completed)) (keptPair (d .in_force)) (keptCount (d .high))
 
 abbrev pub afterReset : Dac
-afterReset = dacOf 0 (pair 0 0) (pair 0 0) (pair 0 0)
+afterReset = dacOf 0 (pair 0 0) (pair 0 0) (pair 0 0) 0
 
 -- A low half is held, and nothing else changes.
 abbrev pub lowWritten : Dac → ℕ → Dac
 lowWritten d byte =
     let k = kept d in
-    dacOf (k .position) (pair (k .held .coarse) (keptHalf byte)) (k .completed) (k .in_force)
+    dacOf (k .position) (pair (k .held .coarse) (keptHalf byte)) (k .completed) (k .in_force) (k .high)
 
 -- A high half is held, and makes a completed pair with the low half held then.
 abbrev pub highWritten : Dac → ℕ → Dac
 highWritten d byte =
     let k = kept d in
     let made = pair (keptHalf byte) (k .held .fine) in
-    dacOf (k .position) made made (k .in_force)
+    dacOf (k .position) made made (k .in_force) (k .high)
 
 -- The pair by which the next clock of a kept record is played: at a period's first clock the pair completed last is put in force.
 unfoldable pub playing : Dac → Pair
 playing k = pick (eqb (k .position) 0) (k .completed) (k .in_force)
 
--- the level of that clock, and the record after it
+-- the level of that clock
 unfoldable pub nextLevel : Dac → ℕ
 nextLevel k = level (playing k) (k .position)
 
+-- The high clocks that its period has had before it: a period's first clock starts the count anew.
+unfoldable pub soFar : Dac → ℕ
+soFar k = pick (eqb (k .position) 0) 0 (k .high)
+
+-- the record after it
 unfoldable pub clocked : Dac → Dac
-clocked k = dacOf ((k .position + 1) % period) (k .held) (k .completed) (playing k)
+clocked k = dacOf ((k .position + 1) % period) (k .held) (k .completed) (playing k) (keptCount (soFar k + nextLevel k))
 
 -- the record after c clocks, and their levels in time's order
 unfoldable pub afterClocks : ℕ → Dac → Dac

@@ -3,7 +3,7 @@
 ghost use mathlib.Core.Path.{_≡_};
 ghost use lib.ListN.{length};
 ghost use Rattle.wave.specs.Wave.{over};
-ghost use Rattle.dac.specs.Running.{keptPair, kept as keptOf, afterReset, lowWritten, highWritten, playing as playingOf, afterClocks, levelsOf};
+ghost use Rattle.dac.specs.Running.{keptPair, dacOf, kept as keptOf, afterReset, lowWritten, highWritten, playing as playingOf, soFar, afterClocks, levelsOf};
 ghost use Rattle.dac.specs.Play.{answerOf, afterPlay, lentAfter, said};
 ghost use Rattle.dac.specs.Steps.{Fits};
 use wave::PERIOD;
@@ -11,6 +11,9 @@ use wave::Pair;
 
 // A register keeps 7 bits, so a half is below this.
 const HALF: u8 = 128;
+
+// A kept count of high clocks is below this: no pair asks for as many in a period.
+const COUNTS: usize = 16384;
 
 #[repr(C)]
 pub struct Dac {
@@ -21,10 +24,13 @@ pub struct Dac {
     // The latest completed pair.
     pub completed: Pair,
     pub in_force: Pair,
+    // The high clocks since the latest first clock of a period.
+    pub high: u16,
 }
 
 pub enum Played {
-    All,
+    // The high clocks since the latest first clock of a period, after the play.
+    All(u32),
     // More clocks than a period has, or than bytes are lent.
     TooMany,
 }
@@ -39,12 +45,8 @@ pub struct Outcome {
 pub fn fresh() -> Dac
     ensures { λ r. ⌜ r ≡ afterReset ⌝ }
 {
-    Dac {
-        position: 0,
-        held: Pair { coarse: 0, fine: 0 },
-        completed: Pair { coarse: 0, fine: 0 },
-        in_force: Pair { coarse: 0, fine: 0 },
-    }
+    let none = Pair { coarse: 0, fine: 0 };
+    dac_of(0, none, none, none, 0)
 }
 
 // Holds a low half.
@@ -74,9 +76,10 @@ pub fn write_high(dac: Dac, byte: u8) -> Dac
     after
 }
 
-// Plays so many clocks: writes one byte for each, 1 where it is high and 0 where it is low, to the first bytes lent.
+// Plays so many clocks: writes one byte for each, 1 where it is high and 0 where it is low, to the first bytes lent, and answers how many clocks of the
+// period have been high so far.
 pub fn play(dac: Dac, clocks: u32, levels: &mut [u8]) -> Outcome
-    ensures { λ r. ⌜ (said (r .answer) ≡ answerOf clocks (length (now (levels .entry)))) × (r .after ≡ afterPlay dac clocks (length (now (levels .entry)))) × (now (levels .exit) ≡ lentAfter dac clocks (now (levels .entry))) ⌝ }
+    ensures { λ r. ⌜ (said (r .answer) ≡ answerOf dac clocks (length (now (levels .entry)))) × (r .after ≡ afterPlay dac clocks (length (now (levels .entry)))) × (now (levels .exit) ≡ lentAfter dac clocks (now (levels .entry))) ⌝ }
 {
     let count = clocks as usize;
     if PERIOD < count {
@@ -92,9 +95,10 @@ pub fn play(dac: Dac, clocks: u32, levels: &mut [u8]) -> Outcome
         };
     }
     let after = run(dac, count, levels);
+    let high = after.high as usize % COUNTS;
     Outcome {
         after,
-        answer: Played::All,
+        answer: Played::All(high as u32),
     }
 }
 
@@ -110,15 +114,18 @@ fn run(dac: Dac, count: usize, levels: &mut [u8]) -> Dac
     let position = after.position as usize;
     let left = PERIOD - position;
     let pair = playing(after);
-    wave::lay(&mut levels[..count], pair, position);
+    let before = so_far(after);
+    let more = wave::lay(&mut levels[..count], pair, position);
     after.position = ((position + count) % PERIOD) as u16;
     if count <= left {
         after.in_force = pair;
+        after.high = ((before as usize + more) % COUNTS) as u16;
         return after;
     }
     let next = after.completed;
-    wave::lay_from_start(&mut levels[left..count], next);
+    let anew = wave::lay_from_start(&mut levels[left..count], next);
     after.in_force = next;
+    after.high = anew as u16;
     after
 }
 
@@ -129,11 +136,20 @@ fn kept(dac: Dac) -> Dac
     let held = kept_pair(dac.held);
     let completed = kept_pair(dac.completed);
     let in_force = kept_pair(dac.in_force);
+    let high = (dac.high as usize % COUNTS) as u16;
+    dac_of(position, held, completed, in_force, high)
+}
+
+// The one place where a record is made: a field more is one argument more here.
+fn dac_of(position: u16, held: Pair, completed: Pair, in_force: Pair, high: u16) -> Dac
+    ensures { λ r. ⌜ r ≡ dacOf position held completed in_force high ⌝ }
+{
     Dac {
         position,
         held,
         completed,
         in_force,
+        high,
     }
 }
 
@@ -156,4 +172,11 @@ fn playing(dac: Dac) -> Pair
     }
     let in_force = dac.in_force;
     in_force
+}
+
+// The high clocks that the period of a kept record's next clock has had before it: a first clock has none before it.
+fn so_far(dac: Dac) -> u16
+    ensures { λ r. ⌜ r ≡ soFar dac ⌝ }
+{
+    if dac.position == 0 { 0 } else { dac.high }
 }

@@ -31,10 +31,10 @@ pub extern "C" fn dirgeflint_dac_write_high(running: &mut Dac, byte: u8)
     *running = dac::write_high(before, byte);
 }
 
-// Plays so many clocks, one byte for each, into the first bytes lent: value 0, or number 14.
+// Plays so many clocks, one byte for each, into the first bytes lent: the record's count of high clocks as value, or number 14.
 #[no_mangle]
 pub extern "C" fn dirgeflint_dac_play(running: &mut Dac, clocks: u32, levels: &mut [u8]) -> Answer
-    ensures { λ r. ⌜ (told r ≡ answerOf clocks (length (now (levels .entry)))) × (now (running .exit) ≡ afterPlay (now (running .entry)) clocks (length (now (levels .entry)))) × (now (levels .exit) ≡ lentAfter (now (running .entry)) clocks (now (levels .entry))) ⌝ }
+    ensures { λ r. ⌜ (told r ≡ answerOf (now (running .entry)) clocks (length (now (levels .entry)))) × (now (running .exit) ≡ afterPlay (now (running .entry)) clocks (length (now (levels .entry)))) × (now (levels .exit) ≡ lentAfter (now (running .entry)) clocks (now (levels .entry))) ⌝ }
 {
     let before = *running;
     let played = dac::play(before, clocks, levels);

@@ -1,13 +1,14 @@
 -- Laws of sums, each by induction on the list or on the number of places: one number more at the end, two rules added, and how many places a
 -- span has.
 -- Assumes nothing.
-use mathlib.Core.Path.{_≡_, refl, _∙_, ap}
+use mathlib.Core.Path.{_≡_, refl, sym, _∙_, ap}
 use mathlib.Core.List.{List, [], _∷_, _++_, map}
-use Prim.Native.Nat.{ℕ, zero, suc, _+_, _-_, _<_, _≤_, min}
+use Prim.Native.Nat.{ℕ, zero, suc, _+_, _-_, _*_, _<_, _≤_, min}
+use native.Mathlib.Nat.{zero-mul, suc-mul}
 use native.Mathlib.Numerals.{add-one}
 use native.Mathlib.Decide.{decLt}
 use native.Mathlib.Omega.{arith}
-use lib.ListN.{length, getD, take}
+use lib.ListN.{length, getD, take, replicate}
 use lib.Seq.{take-suc}
 use Rattle.laws.specs.Pick.{pick}
 use Rattle.laws.specs.Lists.{tabulate}
@@ -16,11 +17,21 @@ use Rattle.laws.specs.Sums.{sumAll}
 use Rattle.laws.proofs.Lists.{tabulate-more}
 use Rattle.laws.proofs.Placing.{span-in, span-before, span-after}
 
--- one number more at the end
+-- two lists, and one number more at the end
+pub sum-append : (k l : List ℕ) → sumAll (k ++ l) ≡ sumAll k + sumAll l
+unfolding sumAll
+sum-append [] l = omega arith
+sum-append (a ∷ k) l = omega (arith, sum-append k l)
+
 pub sum-last : (l : List ℕ) (b : ℕ) → sumAll (l ++ (b ∷ [])) ≡ sumAll l + b
 unfolding sumAll
-sum-last [] b = omega arith
-sum-last (a ∷ l) b = omega (arith, sum-last l b)
+sum-last l b = omega (arith, sum-append l (b ∷ []))
+
+-- one number so many times
+pub sum-same : (n b : ℕ) → sumAll (replicate n b) ≡ n * b
+unfolding sumAll
+sum-same zero b = sym (zero-mul b)
+sum-same (suc n) b = omega (arith, sum-same n b, suc-mul n b)
 
 module _ {A : Type 0} (f : A → ℕ) where
   map-last : (l : List A) (a : A) → sumAll (map f (l ++ (a ∷ []))) ≡ sumAll (map f l) + f a

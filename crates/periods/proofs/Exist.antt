@@ -17,7 +17,7 @@ use Rattle.periods.specs.Theorems.{Reached}
 use Rattle.dac.proofs.Answers.{may}
 use Rattle.periods.proofs.Stream.{waves, unaltered, placed}
 
-moments-append : (es fs : List Event) → moments (es ++ fs) ≡ moments es ++ moments fs
+pub moments-append : (es fs : List Event) → moments (es ++ fs) ≡ moments es ++ moments fs
 unfolding moments
 moments-append [] fs = refl
 moments-append (e ∷ es) fs = ap (λ (l : List Moment). momentsOf e ++ l) (moments-append es fs) ∙ sym (append-assoc (momentsOf e) (moments es) (moments fs))
@@ -27,7 +27,7 @@ follows : (es fs : List Event) (ms : List Moment) → moments fs ≡ ms → mome
 follows es fs ms e = moments-append es fs ∙ ap₂ (λ (a b : List Moment). a ++ b) (sym (reverse-reverse (moments es))) e
 
 -- an accepted play
-played : (c room : ℕ) → c ≤ period → c ≤ room → momentsOf (play c room) ≡ replicate c clock
+pub played : (c room : ℕ) → c ≤ period → c ≤ room → momentsOf (play c room) ≡ replicate c clock
 unfolding momentsOf
 played c room most fits = rw (may c room most fits)
 

@@ -1,4 +1,5 @@
 pub mod Count
+pub mod Counting
 pub mod Exist
 pub mod Fair
 pub mod Proved

@@ -13,7 +13,7 @@ use borrow.Author.Tests.{ne-eqb, ltb-false}
 use Rattle.wave.specs.declared.Pair.{Pair}
 use Rattle.dac.specs.declared.Dac.{Dac}
 use Rattle.wave.specs.Wave.{period, subPeriods, pair, bit, added, wave}
-use Rattle.dac.specs.Running.{halves, keptHalf, keptPair, dacOf, kept, nextLevel, clocked, afterClocks, levelsOf}
+use Rattle.dac.specs.Running.{halves, keptHalf, keptPair, counts, keptCount, dacOf, kept, nextLevel, soFar, clocked, afterClocks, levelsOf}
 use Rattle.dac.specs.Play.{tooMany, afterPlay, levelsPlayed, lentAfter}
 use Rattle.periods.specs.Theorems.{Serves, BothHalves, Joined, Found, Keeps}
 use Rattle.laws.proofs.Lists.{tabulate-same}
@@ -64,10 +64,10 @@ joined d a b s t e accepted =
     let long = length-append s t in
     let first-may : tooMany a (length s) ≡ false = may a (length s) (omega arith) (omega arith) in
     let then-may : tooMany b (length t) ≡ false = may b (length t) (omega arith) (omega arith) in
-    let first : afterPlay d a (length s) ≡ afterClocks a d = sym (accepted-play d a s first-may .1) in
+    let first : afterPlay d a (length s) ≡ afterClocks a d = sym (accepted-play d a s first-may .0) in
     let empty : drop a s ≡ [] = rw (← e) (drop-length s) in
     let behind : drop (a + b) (s ++ t) ≡ drop b t = rw (← e) (drop-append-add s t b) in (
-      rw first (sym (accepted-play (afterClocks a d) b t then-may .1) ∙ sym (after-split a b d) ∙ accepted-play d (a + b) (s ++ t) accepted .1),
+      rw first (sym (accepted-play (afterClocks a d) b t then-may .0) ∙ sym (after-split a b d) ∙ accepted-play d (a + b) (s ++ t) accepted .0),
       rw (first, lent-played d a s first-may, lent-played (afterClocks a d) b t then-may, lent-played d (a + b) (s ++ t) accepted, empty, behind, append-nil (levelsOf a d), levels-split a b d)
           (sym (append-assoc (levelsOf a d) (levelsOf b (afterClocks a d)) (drop b t))),
     )
@@ -84,16 +84,19 @@ found d c lent = (accepted, refused)
     refused e = (rw e refl, sym (refused-play d c lent e .2))
 
 -- a record whose parts are kept is as its kept form
-kept-parts : (p : ℕ) (h c f : Pair) → p < period → keptPair h ≡ h → keptPair c ≡ c → keptPair f ≡ f → kept (dacOf p h c f) ≡ dacOf p h c f
-kept-parts p h c f small eh ec ef = let e : p % period ≡ p = omega arith in λ i. dacOf (e i) (eh i) (ec i) (ef i)
+kept-parts : (p : ℕ) (h c f : Pair) (n : ℕ) → p < period → keptPair h ≡ h → keptPair c ≡ c → keptPair f ≡ f → n < counts → kept (dacOf p h c f n) ≡ dacOf p h c f n
+kept-parts p h c f n small eh ec ef few =
+    let e : p % period ≡ p = omega arith in
+    let en : keptCount n ≡ n = omega arith in
+    λ i. dacOf (e i) (eh i) (ec i) (ef i) (en i)
 
 module _ (d : Dac) where
   kept-kept : kept (kept d) ≡ kept d
-  kept-kept = kept-parts _ _ _ _ (omega arith) (keptPair-kept (d .held)) (keptPair-kept (d .completed)) (keptPair-kept (d .in_force))
+  kept-kept = kept-parts _ _ _ _ (keptCount (d .high)) (omega arith) (keptPair-kept (d .held)) (keptPair-kept (d .completed)) (keptPair-kept (d .in_force)) (omega arith)
 
   clocked-kept : kept (clocked (kept d)) ≡ clocked (kept d)
   unfolding clocked
-  clocked-kept = kept-parts _ _ _ _ (omega arith) (keptPair-kept (d .held)) (keptPair-kept (d .completed)) (playing-kept d)
+  clocked-kept = kept-parts _ _ _ _ (keptCount (soFar (kept d) + nextLevel (kept d))) (omega arith) (keptPair-kept (d .held)) (keptPair-kept (d .completed)) (playing-kept d) (omega arith)
 
   levels-kept : (c : ℕ) → levelsOf c (kept d) ≡ levelsOf c d
   unfolding levelsOf
@@ -115,11 +118,11 @@ keeps d byte c =
     let made = pair-kept (pair (keptHalf byte) (keptHalf (d .held .fine))) (omega arith) (omega arith) in
     let done = keptPair-kept (d .completed) in
     let force = keptPair-kept (d .in_force) in
-    let low-kept = kept-parts (d .position % period) _ _ _ (omega arith) low done force in
-    let high-kept = kept-parts (d .position % period) _ _ _ (omega arith) made made force in (
-      ap (λ (k : Dac). dacOf (k .position) (pair (k .held .coarse) (keptHalf byte)) (k .completed) (k .in_force)) (kept-kept d),
+    let low-kept = kept-parts (d .position % period) _ _ _ (keptCount (d .high)) (omega arith) low done force (omega arith) in
+    let high-kept = kept-parts (d .position % period) _ _ _ (keptCount (d .high)) (omega arith) made made force (omega arith) in (
+      ap (λ (k : Dac). dacOf (k .position) (pair (k .held .coarse) (keptHalf byte)) (k .completed) (k .in_force) (k .high)) (kept-kept d),
       low-kept,
-      ap (λ (k : Dac). dacOf (k .position) (pair (keptHalf byte) (k .held .fine)) (pair (keptHalf byte) (k .held .fine)) (k .in_force)) (kept-kept d),
+      ap (λ (k : Dac). dacOf (k .position) (pair (keptHalf byte) (k .held .fine)) (pair (keptHalf byte) (k .held .fine)) (k .in_force) (k .high)) (kept-kept d),
       high-kept,
       levels-kept d c,
       after-kept d c,

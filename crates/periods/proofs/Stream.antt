@@ -22,25 +22,25 @@ use Rattle.dac.proofs.Clocks.{pair-kept, first-plays, later-plays}
 use Rattle.periods.proofs.Count.{shares}
 
 -- what one moment makes of the record, and what a stretch of them does and puts out
-act : Moment → Dac → Dac
+unfoldable pub act : Moment → Dac → Dac
 act (wroteLow byte) d = lowWritten d byte
 act (wroteHigh byte) d = highWritten d byte
 act clock d = clocked (kept d)
 act cleared d = afterReset
 
-through : List Moment → Dac → Dac
+unfoldable pub through : List Moment → Dac → Dac
 unfolding act
 through [] d = d
 through (m ∷ ms) d = through ms (act m d)
 
-sound : List Moment → Dac → List ℕ
+unfoldable pub sound : List Moment → Dac → List ℕ
 sound [] d = []
 sound (wroteLow byte ∷ ms) d = sound ms (lowWritten d byte)
 sound (wroteHigh byte ∷ ms) d = sound ms (highWritten d byte)
 sound (clock ∷ ms) d = nextLevel (kept d) ∷ sound ms (clocked (kept d))
 sound (cleared ∷ ms) d = sound ms afterReset
 
-sound-append : (ms ns : List Moment) (d : Dac) → sound (ms ++ ns) d ≡ sound ms d ++ sound ns (through ms d)
+pub sound-append : (ms ns : List Moment) (d : Dac) → sound (ms ++ ns) d ≡ sound ms d ++ sound ns (through ms d)
 unfolding sound through act
 sound-append [] ns d = refl
 sound-append (wroteLow byte ∷ ms) ns d = sound-append ms ns (lowWritten d byte)
@@ -81,7 +81,7 @@ step-through (play c room) d = go (tooMany c room)
     go false = through-clocks c d
 step-through reset d = refl
 
-output-sound : (es : List Event) (d : Dac) → output es d ≡ sound (moments es) d
+pub output-sound : (es : List Event) (d : Dac) → output es d ≡ sound (moments es) d
 unfolding output sound moments
 output-sound [] d = refl
 output-sound (e ∷ es) d =
@@ -93,13 +93,13 @@ unfolding through
 through-append [] ns d = refl
 through-append (m ∷ ms) ns d = through-append ms ns (act m d)
 
-run-through : (es : List Event) (d : Dac) → run es d ≡ through (moments es) d
+pub run-through : (es : List Event) (d : Dac) → run es d ≡ through (moments es) d
 unfolding run through moments
 run-through [] d = refl
 run-through (e ∷ es) d = run-through es (step e d) ∙ ap (λ (x : Dac). through (moments es) x) (step-through e d) ∙ sym (through-append (momentsOf e) (moments es) d)
 
 -- the record after a history, whose latest moment comes first
-past : List Moment → Dac
+unfoldable pub past : List Moment → Dac
 unfolding act
 past [] = afterReset
 past (m ∷ h) = act m (past h)
@@ -109,7 +109,7 @@ unfolding through past
 through-past [] ms = refl
 through-past (m ∷ h) ms = through-past h (m ∷ ms)
 
-through-history : (h : List Moment) → through (reverse h) afterReset ≡ past h
+pub through-history : (h : List Moment) → through (reverse h) afterReset ≡ past h
 unfolding through
 through-history h = through-past h []
 
@@ -121,11 +121,11 @@ clocks-past (wroteHigh byte ∷ h) ms = clocks-past h (wroteHigh byte ∷ ms)
 clocks-past (clock ∷ h) ms = omega (arith, clocks-past h (clock ∷ ms))
 clocks-past (cleared ∷ h) ms = clocks-past h (cleared ∷ ms)
 
-clocks-history : (h : List Moment) → clocks (reverse h) ≡ clocks h
+pub clocks-history : (h : List Moment) → clocks (reverse h) ≡ clocks h
 unfolding clocks
 clocks-history h = clocks-past h [] ∙ add-zero (clocks h)
 
-length-sound : (ms : List Moment) (d : Dac) → length (sound ms d) ≡ clocks ms
+pub length-sound : (ms : List Moment) (d : Dac) → length (sound ms d) ≡ clocks ms
 unfolding sound clocks
 length-sound [] d = refl
 length-sound (wroteLow byte ∷ ms) d = length-sound ms (lowWritten d byte)
@@ -142,7 +142,7 @@ low-small (wroteHigh byte ∷ h) = low-small h
 low-small (clock ∷ h) = low-small h
 low-small (cleared ∷ h) = omega arith
 
-pair-small : (h : List Moment) → (lastPair h .coarse < halves) × (lastPair h .fine < halves)
+pub pair-small : (h : List Moment) → (lastPair h .coarse < halves) × (lastPair h .fine < halves)
 unfolding lastPair
 pair-small [] = (omega arith, omega arith)
 pair-small (wroteLow byte ∷ h) = (omega (arith, pair-small h .0), omega (arith, pair-small h .1))
@@ -150,12 +150,12 @@ pair-small (wroteHigh byte ∷ h) = (omega arith, low-small h)
 pair-small (clock ∷ h) = pair-small h
 pair-small (cleared ∷ h) = (omega arith, omega arith)
 
-last-kept : (h : List Moment) → keptPair (lastPair h) ≡ lastPair h
+pub last-kept : (h : List Moment) → keptPair (lastPair h) ≡ lastPair h
 last-kept h = pair-kept (lastPair h) (pair-small h .0) (pair-small h .1)
 
 -- what the record holds after a history
-record Known (h : List Moment) (d : Dac) : Type 0 where
-  place : kept d .position ≡ since h % period
+pub record Known (h : List Moment) (d : Dac) : Type 0 where
+  pub place : kept d .position ≡ since h % period
   held : keptHalf (d .held .fine) ≡ lastLow h
   coarse : keptHalf (d .completed .coarse) ≡ lastPair h .coarse
   fine : keptHalf (d .completed .fine) ≡ lastPair h .fine
@@ -173,7 +173,7 @@ known-clock : (h : List Moment) (d : Dac) → Known h d → Known (clock ∷ h) 
 unfolding since lastLow lastPair clocked
 known-clock h d k = record { place = omega (arith, k .place); held = omega (arith, k .held); coarse = omega (arith, k .coarse); fine = omega (arith, k .fine) }
 
-known : (h : List Moment) → Known h (past h)
+pub known : (h : List Moment) → Known h (past h)
 unfolding past act since lastLow lastPair
 known [] = record { place = refl; held = refl; coarse = refl; fine = refl }
 known (wroteLow byte ∷ h) = known-wrote-low h (past h) byte (known h)
@@ -182,11 +182,11 @@ known (clock ∷ h) = known-clock h (past h) (known h)
 known (cleared ∷ h) = record { place = refl; held = refl; coarse = refl; fine = refl }
 
 -- a clock at position a with the pair q in force
-level-by : (k : Dac) (q : Pair) (a : ℕ) → playing k ≡ q → k .position ≡ a → nextLevel k ≡ level q a
+pub level-by : (k : Dac) (q : Pair) (a : ℕ) → playing k ≡ q → k .position ≡ a → nextLevel k ≡ level q a
 unfolding nextLevel
 level-by k q a e p = ap₂ level e p
 
-clocked-force : (k : Dac) → clocked k .in_force ≡ playing k
+pub clocked-force : (k : Dac) → clocked k .in_force ≡ playing k
 unfolding clocked
 clocked-force k = refl
 
@@ -246,7 +246,7 @@ pub unaltered : Unaltered
 unaltered es h p rest P es′ h′ p′ rest′ P′ e = waves es h p rest P ∙ ap (λ (q : Pair). wave q 0 period) e ∙ sym (waves es′ h′ p′ rest′ P′)
 
 -- where a sequence from reset ends
-run-past : (es : List Event) → run es afterReset ≡ past (history es)
+pub run-past : (es : List Event) → run es afterReset ≡ past (history es)
 run-past es = run-through es afterReset ∙ ap (λ (ms : List Moment). through ms afterReset) (sym (reverse-reverse (moments es))) ∙ through-history (history es)
 
 past-place : (h : List Moment) → past h .position ≡ since h % period

@@ -30,7 +30,7 @@ pub fn played_answer(played: Played) -> Answer
     ensures { λ r. ⌜ told r ≡ Dac·said played ⌝ }
 {
     match played {
-        Played::All => answer::accepted(0),
+        Played::All(high) => answer::accepted(high),
         Played::TooMany => answer::refused(14, 0),
     }
 }

@@ -14,10 +14,12 @@ use lib.Seq.{take-at, drop-at, drop-drop, drop-length, length-take-le}
 use borrow.Author.Tests.{ltb-true, ltb-false}
 use Rattle.laws.specs.Pick.{pick}
 use Rattle.laws.specs.Lists.{tabulate}
+use Rattle.laws.specs.Sums.{sumAll}
 use Rattle.laws.proofs.Lists.{length-tabulate, tabulate-same}
+use Rattle.laws.proofs.Sums.{sum-append, sum-same}
 use Rattle.wave.specs.declared.Pair.{Pair}
-use Rattle.wave.specs.Wave.{period, subPeriod, added, level, wave, laid}
-use Rattle.wave.specs.Steps.{levelBelow, highIn, pulse}
+use Rattle.wave.specs.Wave.{period, subPeriod, added, level, wave, waveIn, laid}
+use Rattle.wave.specs.Steps.{levelBelow, highIn, pulse, Lays}
 
 pub wave-is : (q : Pair) (a n : ℕ) → wave q a n ≡ tabulate n (λ k. level q (a + k))
 unfolding wave tabulate
@@ -33,6 +35,26 @@ pub wave-add : (q : Pair) (a n m : ℕ) → wave q a (n + m) ≡ wave q a n ++ w
 unfolding wave
 wave-add q a zero m = rw (zero-add, add-zero)
 wave-add q a (suc n) m = rw (suc-add, add-suc, ← suc-add) (ap (λ (l : List ℕ). level q a ∷ l) (wave-add q (suc a) n m))
+
+pub sum-wave-add : (q : Pair) (a n m : ℕ) → sumAll (wave q a (n + m)) ≡ sumAll (wave q a n) + sumAll (wave q (a + n) m)
+sum-wave-add q a n m = ap sumAll (wave-add q a n m) ∙ sum-append (wave q a n) (wave q (a + n) m)
+
+level-le : (q : Pair) (a : ℕ) → level q a ≤ 1
+unfolding level
+level-le q a = go (ltb (a % subPeriod) (q .coarse + added (q .fine) (a / subPeriod)))
+  where
+    go : (b : Bool) → pick b 1 0 ≤ 1
+    go true = omega arith
+    go false = omega arith
+
+-- no more are high than there are
+pub sum-wave-le : (q : Pair) (a n : ℕ) → sumAll (wave q a n) ≤ n
+unfolding wave sumAll
+sum-wave-le q a zero = omega arith
+sum-wave-le q a (suc n) = omega (arith, level-le q a, sum-wave-le q (suc a) n)
+
+pub lays-most : (q : Pair) (a n r : ℕ) (l : List ℕ) → Lays q a n r l → r ≤ n
+lays-most q a n r l is = omega (arith, is .0, sum-wave-le q a n)
 
 -- one clock of a sub-period that is high for its first x
 module _ (i x n : ℕ) where
@@ -99,6 +121,14 @@ no-longer i x n h = go (decLt x subPeriod)
         let e : min x subPeriod ≡ subPeriod = omega arith in
         rw e (all-high i x n (omega arith) ∙ sym (all-high i subPeriod n h))
 
+-- how many of a pulse's levels are high
+pub sum-pulse : (i x n : ℕ) → sumAll (pulse i x n) ≡ min (x - i) n
+unfolding pulse
+sum-pulse i x n =
+    let h : ℕ = min (x - i) n in
+    let l : ℕ = n - (x - i) in
+    omega (arith, sum-append (replicate h 1) (replicate l 0), sum-same h 1, sum-same l 0)
+
 -- clock by clock
 pub pulse-is : (i x n : ℕ) → pulse i x n ≡ tabulate n (λ k. levelBelow (i + k) x)
 unfolding tabulate
@@ -114,8 +144,12 @@ as-pulse q a n h =
     let e : a ≡ subPeriod * (a / subPeriod) + a % subPeriod = omega arith in
     ap (λ (p : ℕ). wave q p n) e ∙ within-sub q (a / subPeriod) n (a % subPeriod) h ∙ no-longer (a % subPeriod) (q .coarse + added (q .fine) (a / subPeriod)) n h
 
-pub within-laid : (q : Pair) (a i x n : ℕ) (ls : List ℕ) → ls ≡ pulse i x n → i ≡ a % subPeriod → x ≡ highIn q (a / subPeriod) → a % subPeriod + n ≤ subPeriod → ls ≡ wave q a n
-within-laid q a i x n ls is clock high h = is ∙ rw (clock, high) (sym (as-pulse q a n h))
+-- What is laid and counted from clock i of a sub-period that is high for x clocks, where the position says both.
+pub within-laid : (q : Pair) (a i x n r : ℕ) (ls : List ℕ) → ls ≡ pulse i x n → r ≡ min (x - i) n → i ≡ a % subPeriod → x ≡ highIn q (a / subPeriod)
+    → a % subPeriod + n ≤ subPeriod → Lays q a n r ls
+within-laid q a i x n r ls is count clock high h =
+    let e : pulse i x n ≡ wave q a n = rw (clock, high) (sym (as-pulse q a n h)) in
+    (count ∙ sym (sum-pulse i x n) ∙ ap sumAll e, is ∙ e)
 
 -- a part written behind the first elements xs: what is lent, and what the whole is after it
 module _ (xs s : List ℕ) (i k : ℕ) (long : length xs ≡ i) where
@@ -126,74 +160,94 @@ module _ (xs s : List ℕ) (i k : ℕ) (long : length xs ≡ i) where
   put-behind ys = rw (take-at xs s i long, drop-at xs s i long)
 
 -- the levels by how far ahead the turn is, at which they go low
-from-turn : (i x t n : ℕ) → t ≡ x - i → pulse 0 t n ≡ pulse i x n
+pub from-turn : (i x t n : ℕ) → t ≡ x - i → pulse 0 t n ≡ pulse i x n
 unfolding pulse
 from-turn i x t n ahead = let e : t - 0 ≡ x - i = omega arith in rw e
 
-pub turned : (i x t n : ℕ) → t ≡ x - i → tabulate n (λ k. levelBelow k t) ≡ pulse i x n
-turned i x t n ahead =
-    sym (pulse-is 0 t n ∙ tabulate-same n _ _ (λ k h. ap (λ (p : ℕ). levelBelow p t) (zero-add k))) ∙ from-turn i x t n ahead
+pub turned : (t n : ℕ) → tabulate n (λ k. levelBelow k t) ≡ pulse 0 t n
+turned t n = sym (pulse-is 0 t n ∙ tabulate-same n _ _ (λ k h. ap (λ (p : ℕ). levelBelow p t) (zero-add k)))
 
--- l is l₀ with the first i levels of the wave from a position on over it
-pub record Begun (q : Pair) (a i : ℕ) (l l₀ : List ℕ) : Type 0 where
+-- l is l₀ with the first i levels of the wave from a position on over it, of which r are high
+pub record Begun (q : Pair) (a i r : ℕ) (l l₀ : List ℕ) : Type 0 where
   pub inside : i ≤ length l₀
   pub size : length l ≡ length l₀
+  pub high : r ≡ sumAll (wave q a i)
+  pub most : r ≤ i
   pub is : l ≡ wave q a i ++ drop i l₀
 
 module _ (q : Pair) (a : ℕ) where
-  begun-by : (i : ℕ) (l l₀ : List ℕ) → i ≤ length l₀ → l ≡ wave q a i ++ drop i l₀ → Begun q a i l l₀
-  begun-by i l l₀ h e =
-      record { inside = h; size = ap length e ∙ omega (arith, length-append (wave q a i) (drop i l₀), length-drop i l₀, length-wave q a i); is = e }
+  begun-by : (i r : ℕ) (l l₀ : List ℕ) → i ≤ length l₀ → r ≡ sumAll (wave q a i) → l ≡ wave q a i ++ drop i l₀ → Begun q a i r l l₀
+  begun-by i r l l₀ h n e =
+      record { inside = h; size = ap length e ∙ omega (arith, length-append (wave q a i) (drop i l₀), length-drop i l₀, length-wave q a i); high = n; most = omega (arith, n, sum-wave-le q a i); is = e }
 
-  pub begun-none : (l : List ℕ) → Begun q a 0 l l
-  unfolding wave
-  begun-none l = begun-by 0 l l (omega arith) refl
+  pub begun-none : (l : List ℕ) → Begun q a 0 0 l l
+  unfolding wave sumAll
+  begun-none l = begun-by 0 0 l l (omega arith) refl refl
 
   -- a part is laid behind it, up to e
-  pub begun-more : (i e : ℕ) (l l₀ ys : List ℕ) → Begun q a i l l₀ → i ≤ e → e ≤ length l₀ → ys ≡ wave q (a + i) (length (take (e - i) (drop i l)))
-      → Begun q a e (take i l ++ (ys ++ drop (e - i) (drop i l))) l₀
-  begun-more i e l l₀ ys g on room is =
+  pub begun-more : (i e r m s : ℕ) (l l₀ ys : List ℕ) → Begun q a i r l l₀ → i ≤ e → e ≤ length l₀ → Lays q (a + i) (length (take (e - i) (drop i l))) m ys → s ≡ r + m
+      → Begun q a e s (take i l ++ (ys ++ drop (e - i) (drop i l))) l₀
+  begun-more i e r m s l l₀ ys g on room is sum =
       let whole : i + (e - i) ≡ e = omega arith in
       let long : length (wave q a i) ≡ i = length-wave q a i in
       let part : length (take (e - i) (drop i l)) ≡ e - i = length-take-le (e - i) (drop i l) (omega (arith, length-drop i l, g .size)) in
       let more : wave q a i ++ wave q (a + i) (e - i) ≡ wave q a e = sym (wave-add q a i (e - i)) ∙ ap (wave q a) whole in
-      let laid : ys ≡ wave q (a + i) (e - i) = is ∙ ap (wave q (a + i)) part in
-      begun-by e _ l₀ room
+      let laid : ys ≡ wave q (a + i) (e - i) = is .1 ∙ ap (wave q (a + i)) part in
+      let count : m ≡ sumAll (wave q (a + i) (e - i)) = is .0 ∙ ap (λ (n : ℕ). sumAll (wave q (a + i) n)) part in
+      begun-by e s _ l₀ room
+      (omega (arith, g .high, sum-wave-add q a i (e - i)) ∙ ap (λ (n : ℕ). sumAll (wave q a n)) whole)
       (rw (g .is) (put-behind (wave q a i) (drop i l₀) i (e - i) long ys
       ∙ rw (drop-drop, whole, laid) (sym (append-assoc (wave q a i) (wave q (a + i) (e - i)) (drop e l₀)) ∙ ap (λ (w : List ℕ). w ++ drop e l₀) more)))
 
-  pub begun-all : (i : ℕ) (l l₀ : List ℕ) → length l₀ ≤ i → Begun q a i l l₀ → l ≡ wave q a (length l₀)
-  begun-all i l l₀ h g =
+  pub begun-all : (i r : ℕ) (l l₀ : List ℕ) → length l₀ ≤ i → Begun q a i r l l₀ → Lays q a (length l₀) r l
+  begun-all i r l l₀ h g =
       let all : i ≡ length l₀ = omega (arith, g .inside) in
-      g .is ∙ rw (all, drop-length l₀) (append-nil (wave q a (length l₀)))
+      (g .high ∙ ap (λ (n : ℕ). sumAll (wave q a n)) all, g .is ∙ rw (all, drop-length l₀) (append-nil (wave q a (length l₀))))
 
   -- the part behind it is laid, and that is all
-  pub begun-rest : (i b : ℕ) (l l₀ ys : List ℕ) → Begun q a i l l₀ → ys ≡ wave q b (length (take (length l - i) (drop i l))) → b ≡ a + i
-      → take i l ++ (ys ++ drop (length l - i) (drop i l)) ≡ wave q a (length l₀)
-  begun-rest i b l l₀ ys g is at =
-      let laid : ys ≡ wave q (a + i) (length (take (length l - i) (drop i l))) = rw (← at) is in
-      begun-all (length l) _ l₀ (omega (arith, g .size))
-      (begun-more i (length l) l l₀ ys g (omega (arith, g .size, g .inside)) (omega (arith, g .size)) laid)
+  pub begun-rest : (i b r m s : ℕ) (l l₀ ys : List ℕ) → Begun q a i r l l₀ → Lays q b (length (take (length l - i) (drop i l))) m ys → b ≡ a + i → s ≡ r + m
+      → Lays q a (length l₀) s (take i l ++ (ys ++ drop (length l - i) (drop i l)))
+  begun-rest i b r m s l l₀ ys g is at sum =
+      let laid : Lays q (a + i) (length (take (length l - i) (drop i l))) m ys = rw (← at) is in
+      begun-all (length l) s _ l₀ (omega (arith, g .size))
+      (begun-more i (length l) r m s l l₀ ys g (omega (arith, g .size, g .inside)) (omega (arith, g .size)) laid sum)
 
   module _ (s : List ℕ) where
     -- a first part is laid
-    pub begun-first : (n : ℕ) (ls : List ℕ) → n ≤ length s → ls ≡ wave q a (length (take n s)) → Begun q a n (ls ++ drop n s) s
-    begun-first n ls h is = begun-by n _ s h (ap (λ (w : List ℕ). w ++ drop n s) (is ∙ ap (wave q a) (length-take-le n s h)))
+    pub begun-first : (n r : ℕ) (ls : List ℕ) → n ≤ length s → Lays q a (length (take n s)) r ls → Begun q a n r (ls ++ drop n s) s
+    begun-first n r ls h is =
+        let long : length (take n s) ≡ n = length-take-le n s h in
+        begun-by n r _ s h (is .0 ∙ ap (λ (k : ℕ). sumAll (wave q a k)) long) (ap (λ (w : List ℕ). w ++ drop n s) (is .1 ∙ ap (wave q a) long))
 
-    -- What `lay` leaves in s: as many levels as there are bytes, and none from the period's end on.
+    -- What `lay` answers, and what it leaves in s: as many levels as there are bytes, and none from the period's end on.
     laid-is : (n : ℕ) → n ≡ min (length s) (period - a) → wave q a n ++ drop n s ≡ laid q a s
     unfolding laid
     laid-is n e = rw (← e, length-wave q a n)
 
-    pub past-end : period ≤ a → s ≡ laid q a s
-    past-end h = begun-none s .is ∙ laid-is 0 (omega arith)
+    begun-laid : (n r : ℕ) (l : List ℕ) → n ≡ min (length s) (period - a) → Begun q a n r l s → (r ≡ sumAll (waveIn q a (length s))) × (l ≡ laid q a s)
+    begun-laid n r l e g = (g .high ∙ ap (λ (k : ℕ). sumAll (wave q a k)) e, g .is ∙ laid-is n e)
 
-    pub first-laid : (n : ℕ) (ls : List ℕ) → n ≡ min (length s) (period - a) → ls ≡ wave q a (length (take n s)) → ls ++ drop n s ≡ laid q a s
-    first-laid n ls e is = begun-first n ls (omega arith) is .is ∙ laid-is n e
+    pub past-end : period ≤ a → (r : ℕ) → r ≡ 0 → (r ≡ sumAll (waveIn q a (length s))) × (s ≡ laid q a s)
+    past-end h r none = begun-laid 0 r s (omega arith) (rw none (begun-none s))
+
+    pub first-laid : (n r : ℕ) (ls : List ℕ) → n ≡ min (length s) (period - a) → Lays q a (length (take n s)) r ls
+        → (r ≡ sumAll (waveIn q a (length s))) × (ls ++ drop n s ≡ laid q a s)
+    first-laid n r ls e is = begun-laid n r _ e (begun-first n r ls (omega arith) is)
+
+-- no more of them are high than there are bytes, or clocks of the period
+pub in-most : (q : Pair) (a room r : ℕ) → r ≡ sumAll (waveIn q a room) → (r ≤ room) × (r ≤ period - a)
+in-most q a room r e = let most = sum-wave-le q a (min room (period - a)) in (omega arith, omega arith)
 
 -- where the bytes are no more than the period has left
+pub in-all : (q : Pair) (a room : ℕ) → a + room ≤ period → waveIn q a room ≡ wave q a room
+in-all q a room h = let e : min room (period - a) ≡ room = omega arith in ap (wave q a) e
+
 pub laid-all : (q : Pair) (a : ℕ) (s : List ℕ) → a + length s ≤ period → laid q a s ≡ wave q a (length s)
 laid-all q a s h = sym (laid-is q a s (length s) (omega arith)) ∙ rw (drop-length s) (append-nil (wave q a (length s)))
+
+pub all-laid : (q : Pair) (a : ℕ) (s : List ℕ) (r : ℕ) (ls : List ℕ) → a + length s ≤ period → Lays q a (length s) r ls
+    → (r ≡ sumAll (waveIn q a (length s))) × (ls ≡ laid q a s)
+all-laid q a s r ls h is = (is .0 ∙ ap sumAll (sym (in-all q a (length s) h)), is .1 ∙ sym (laid-all q a s h))
 
 -- and where the period ends before they do
 pub laid-cut : (q : Pair) (a : ℕ) (s : List ℕ) (left : ℕ) → left ≡ period - a → left ≤ length s → laid q a s ≡ wave q a left ++ drop left s

@@ -28,8 +28,8 @@ pair c f = record { coarse = c; fine = f }
 abbrev pub bit : ℕ → ℕ → ℕ
 bit x b = x / 2 ^ b % 2
 
--- The clocks, one or none, that a fine half adds to sub-period n. A sub-period's number has 7 bits. One that ends in z zero bits is served
--- by fine bit 6 - z; sub-period 0 is served by none.
+-- The clocks, one or none, that a fine half adds to sub-period n. A sub-period's number has 7 bits. One that ends in exactly z zero
+-- bits is served by fine bit 6 - z; sub-period 0 is served by none.
 unfoldable pub added : ℕ → ℕ → ℕ
 added fine n = pick (eqb n 0) 0 (bit fine (6 - trailingZeros 7 n))
 
@@ -47,6 +47,10 @@ wave q a (suc n) = level q a ∷ wave q (suc a) n
 abbrev pub over : List ℕ → List ℕ → List ℕ
 over levels lent = levels ++ drop (length levels) lent
 
--- The levels from position a on, laid over bytes lent: as many as there are bytes, and none past the period's end.
+-- The levels from position a on that so many bytes take: one each, and none past the period's end.
+abbrev pub waveIn : Pair → ℕ → ℕ → List ℕ
+waveIn q a room = wave q a (min room (period - a))
+
+-- those levels, laid over bytes lent
 unfoldable pub laid : Pair → ℕ → List ℕ → List ℕ
-laid q a lent = over (wave q a (min (length lent) (period - a))) lent
+laid q a lent = over (waveIn q a (length lent)) lent

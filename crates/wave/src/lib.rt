@@ -2,8 +2,9 @@
 ghost use mathlib.Core.Path.{_≡_};
 ghost use Prim.Native.Nat.{_+_, _-_, _%_, _<_, _≤_, min};
 ghost use lib.ListN.{length};
-ghost use Rattle.wave.specs.Wave.{period, subPeriod, subPeriods, added as addedOf, wave, laid};
-ghost use Rattle.wave.specs.Steps.{levelBelow, highIn, pulse};
+ghost use Rattle.laws.specs.Sums.{sumAll};
+ghost use Rattle.wave.specs.Wave.{period, subPeriod, subPeriods, added as addedOf, wave, waveIn, laid};
+ghost use Rattle.wave.specs.Steps.{levelBelow, highIn, pulse, Lays};
 
 // In clocks.
 pub const PERIOD: usize = 16384;
@@ -13,6 +14,9 @@ const SUB_PERIOD: usize = 128;
 // From so many clocks of a sub-period on, `many` lays them, and below it `few`: as measured, the quickest.
 const MANY: usize = 8;
 
+// From so many clocks on, levels of two kinds of sub-periods are made ready before they are laid.
+const LONG: usize = 1024;
+
 // The halves, of 7 bits each, as the DAC keeps them. Of larger ones, a coarse half makes every clock high, and bit 7 of a fine half counts for nothing.
 #[repr(C)]
 pub struct Pair {
@@ -20,97 +24,123 @@ pub struct Pair {
     pub fine: u8,
 }
 
-// Lays the levels that a pair gives from a position on over the bytes lent, 1 for high and 0 for low, as far as the bytes and the period reach. Calls
-// that stay within a sub-period, as most of few clocks do, are looked for first.
-pub fn lay(levels: &mut [u8], pair: Pair, from: usize)
-    ensures { λ _. ⌜ now (levels .exit) ≡ laid pair from (now (levels .entry)) ⌝ }
+// Lays the levels that a pair gives from a position on over the bytes lent, 1 for high and 0 for low, as far as the bytes and the period reach, and answers
+// how many are high. Calls that stay within a sub-period, as most of few clocks do, are looked for first.
+pub fn lay(levels: &mut [u8], pair: Pair, from: usize) -> usize
+    ensures { λ r. ⌜ (r ≡ sumAll (waveIn pair from (length (now (levels .entry))))) × (now (levels .exit) ≡ laid pair from (now (levels .entry))) ⌝ }
 {
     if PERIOD <= from {
-        return;
+        return 0;
     }
     let left = SUB_PERIOD - from % SUB_PERIOD;
     if levels.len() <= left {
-        lay_within(levels, pair, from);
-        return;
+        return lay_within(levels, pair, from);
     }
     let n = least(levels.len(), PERIOD - from);
-    lay_across(&mut levels[..n], pair, from);
+    if n < LONG {
+        return lay_across(&mut levels[..n], pair, from);
+    }
+    lay_long(&mut levels[..n], pair, from)
 }
 
 // The same from the period's first clock on, where none of the tests is needed.
-pub fn lay_from_start(levels: &mut [u8], pair: Pair)
-    ensures { λ _. ⌜ now (levels .exit) ≡ laid pair 0 (now (levels .entry)) ⌝ }
+pub fn lay_from_start(levels: &mut [u8], pair: Pair) -> usize
+    ensures { λ r. ⌜ (r ≡ sumAll (waveIn pair 0 (length (now (levels .entry))))) × (now (levels .exit) ≡ laid pair 0 (now (levels .entry))) ⌝ }
 {
     let n = least(levels.len(), PERIOD);
-    lay_on(&mut levels[..n], pair, 0);
+    lay_on(&mut levels[..n], pair, 0)
 }
 
-// The levels from any clock on, up to the end of its sub-period or further: those that are left of a sub-period under way, and then the others. What begins
-// with a sub-period has none left over, and goes straight to the loop over whole ones.
-fn lay_across(levels: &mut [u8], pair: Pair, from: usize)
+// The levels from any clock on, a sub-period at a time.
+fn lay_across(levels: &mut [u8], pair: Pair, from: usize) -> usize
+    requires { ⌜ from + length (now levels) ≤ period ⌝ }
+    ensures { λ r. ⌜ Lays pair from (length (now (levels .entry))) r (now (levels .exit)) ⌝ }
+{
+    let mut high = 0usize;
+    let mut i = 0usize;
+    while i < levels.len() {
+        let left = SUB_PERIOD - (from + i) % SUB_PERIOD;
+        let end = i + least(left, levels.len() - i);
+        high += lay_within(&mut levels[i..end], pair, from + i);
+        i = end;
+    }
+    high
+}
+
+// The same for many sub-periods: those that are left of one under way, and then the others. What begins with a sub-period has none left over, and goes
+// straight to the loop over whole ones.
+fn lay_long(levels: &mut [u8], pair: Pair, from: usize) -> usize
     requires { ⌜ (from + length (now levels) ≤ period) × (subPeriod ≤ from % subPeriod + length (now levels)) ⌝ }
-    ensures { λ _. ⌜ now (levels .exit) ≡ wave pair from (length (now (levels .entry))) ⌝ }
+    ensures { λ r. ⌜ Lays pair from (length (now (levels .entry))) r (now (levels .exit)) ⌝ }
 {
     let begun = from % SUB_PERIOD;
     if begun == 0 {
-        lay_on(levels, pair, from);
-        return;
+        return lay_on(levels, pair, from);
     }
     let head = SUB_PERIOD - begun;
-    lay_within(&mut levels[..head], pair, from);
-    lay_on(&mut levels[head..], pair, from + head);
+    let first = lay_within(&mut levels[..head], pair, from);
+    let others = lay_on(&mut levels[head..], pair, from + head);
+    first + others
 }
 
 // The levels from the first clock of a sub-period on: whole sub-periods, and what is left.
-fn lay_on(levels: &mut [u8], pair: Pair, from: usize)
+fn lay_on(levels: &mut [u8], pair: Pair, from: usize) -> usize
     requires { ⌜ (from + length (now levels) ≤ period) × (from % subPeriod ≡ 0) ⌝ }
-    ensures { λ _. ⌜ now (levels .exit) ≡ wave pair from (length (now (levels .entry))) ⌝ }
+    ensures { λ r. ⌜ Lays pair from (length (now (levels .entry))) r (now (levels .exit)) ⌝ }
 {
+    let mut high = 0usize;
     let mut i = 0usize;
     while SUB_PERIOD <= levels.len() - i {
         let end = i + SUB_PERIOD;
         let n = (from + i) / SUB_PERIOD;
         // 0, but the compiler must not see it: `many` tells why
         let clock = ((from + i) % SUB_PERIOD) as u8;
-        sub_period(&mut levels[i..end], pair, n, clock);
+        high += sub_period(&mut levels[i..end], pair, n, clock);
         i = end;
     }
     if levels.len() <= i {
-        return;
+        return high;
     }
-    lay_within(&mut levels[i..], pair, from + i);
+    let rest = lay_within(&mut levels[i..], pair, from + i);
+    high + rest
 }
 
 // The levels of sub-period n from a clock on: as many high clocks as the coarse half says, or one more. Each of the two kinds has a call of its own, so that
 // its levels are the same in every turn of the loop above, and the compiler makes both ready before the loop.
-fn sub_period(levels: &mut [u8], pair: Pair, n: usize, clock: u8)
-    requires { ⌜ (n < subPeriods) × (clock + length (now levels) ≤ subPeriod) ⌝ }
-    ensures { λ _. ⌜ now (levels .exit) ≡ pulse clock (highIn pair n) (length (now (levels .entry))) ⌝ }
+fn sub_period(levels: &mut [u8], pair: Pair, n: usize, clock: u8) -> usize
+    requires { ⌜ (n < subPeriods) × (clock ≡ 0) × (length (now levels) ≡ subPeriod) ⌝ }
+    ensures { λ r. ⌜ (r ≡ highIn pair n) × (now (levels .exit) ≡ pulse clock (highIn pair n) (length (now (levels .entry)))) ⌝ }
 {
     let coarse = pair.coarse as usize;
     if added(pair.fine, n) == 0 {
-        many(levels, clock, least(coarse, SUB_PERIOD) as u8);
-        return;
+        let high = least(coarse, SUB_PERIOD);
+        many(levels, clock, high as u8);
+        return high;
     }
-    many(levels, clock, least(coarse + 1, SUB_PERIOD) as u8);
+    let high = least(coarse + 1, SUB_PERIOD);
+    many(levels, clock, high as u8);
+    high
 }
 
 // The levels of clocks within one sub-period. A whole one has a call of its own: there the compiler knows how many clocks it lays.
-fn lay_within(levels: &mut [u8], pair: Pair, from: usize)
+fn lay_within(levels: &mut [u8], pair: Pair, from: usize) -> usize
     requires { ⌜ (from < period) × (from % subPeriod + length (now levels) ≤ subPeriod) ⌝ }
-    ensures { λ _. ⌜ now (levels .exit) ≡ wave pair from (length (now (levels .entry))) ⌝ }
+    ensures { λ r. ⌜ Lays pair from (length (now (levels .entry))) r (now (levels .exit)) ⌝ }
 {
     let clock = from % SUB_PERIOD;
     let high = high_in(pair, from / SUB_PERIOD);
+    let turn = beyond(high as usize, clock);
+    let count = least(turn, levels.len());
     if levels.len() < MANY {
-        few(levels, clock, high as usize);
-        return;
+        few(levels, turn);
+        return count;
     }
     if levels.len() == SUB_PERIOD {
         many(levels, clock as u8, high);
-        return;
+        return count;
     }
     many(levels, clock as u8, high);
+    count
 }
 
 // The levels from a clock of a sub-period on. Clocks are counted as bytes, so that the compiler compares many at a time. If it saw that the first one is 0
@@ -128,11 +158,10 @@ fn many(levels: &mut [u8], clock: u8, high: u8)
     }
 }
 
-// The same for a few clocks: those before the turn are high.
-fn few(levels: &mut [u8], clock: usize, high: usize)
-    ensures { λ _. ⌜ now (levels .exit) ≡ pulse clock high (length (now (levels .entry))) ⌝ }
+// A few levels: those before the turn are high.
+fn few(levels: &mut [u8], turn: usize)
+    ensures { λ _. ⌜ now (levels .exit) ≡ pulse 0 turn (length (now (levels .entry))) ⌝ }
 {
-    let turn = beyond(high, clock);
     let mut i = 0usize;
     while i < levels.len() {
         levels[i] = level_below(i, turn);

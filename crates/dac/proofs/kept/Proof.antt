@@ -1,9 +1,10 @@
 -- `dac::kept` meets its contract.
 -- Assumes nothing.
 use Prim.Native.Nat.{_%_}
+use mathlib.Core.Path.{_∙_}
 use borrow.Author.Needs.{needs}
 use Rattle.wave.specs.Wave.{period}
-use Rattle.dac.specs.Running.{dacOf}
+use Rattle.dac.specs.Running.{keptCount, dacOf}
 use Rattle.dac.proofs.kept.Statement.{statement}
 use Rattle.dac.proofs.kept.Tie as tie
 
@@ -22,13 +23,23 @@ kept-pair-requires-2 c κs = search needs
 kept-pair-requires-3 : tie.Need-kept-pair-requires-3
 kept-pair-requires-3 c κs = search needs
 
+cast-high : tie.Need-cast-high
+cast-high c = search needs
+
+cast-high-2 : tie.Need-cast-high-2
+cast-high-2 c = search needs
+
+dac-of-requires : tie.Need-dac-of-requires
+dac-of-requires c κs = search needs
+
 returns : tie.Need-returns
 returns c =
     let dac = (let p : tie.Start = search in p .args .dac) in
     let held = (let p : tie.After-kept-pair = search in p .kept-pair .ensures) in
     let completed = (let p : tie.After-kept-pair2 = search in p .kept-pair2 .ensures) in
     let in-force = (let p : tie.After-kept-pair3 = search in p .kept-pair3 .ensures) in
-    λ i. dacOf (dac .position % period) (held i) (completed i) (in-force i)
+    let made = (let p : tie.After-dac-of = search in p .dac-of .ensures) in
+    made ∙ (λ i. dacOf (dac .position % period) (held i) (completed i) (in-force i) (keptCount (dac .high)))
 
 pub kept-spec : {M : Type 1} → statement M
-kept-spec = tie.close (tie.spec cast-position cast-position-2 kept-pair-requires kept-pair-requires-2 kept-pair-requires-3 returns)
+kept-spec = tie.close (tie.spec cast-position cast-position-2 kept-pair-requires kept-pair-requires-2 kept-pair-requires-3 cast-high cast-high-2 dac-of-requires returns)

@@ -6,7 +6,7 @@ use lib.ListN.{length}
 use native.Mathlib.Omega.{arith}
 use borrow.Author.Needs.{needs}
 use Rattle.wave.specs.Wave.{period}
-use Rattle.dac.proofs.Answers.{past-period, past-room, may, refused-play, accepted-play}
+use Rattle.dac.proofs.Answers.{past-period, past-room, may, refused-play, accepted-play, accepted-count}
 use Rattle.dac.proofs.play.Statement.{statement}
 use Rattle.dac.proofs.play.Tie as tie
 
@@ -25,6 +25,12 @@ returns-2 c =
 run-requires : tie.Need-run-requires
 run-requires c κs = search needs
 
+cast-high : tie.Need-cast-high
+cast-high c = search needs
+
+cast-answer : tie.Need-cast-t13
+cast-answer c = search needs
+
 same-length : tie.Need-same-length
 same-length c = search needs
 
@@ -34,8 +40,9 @@ returns-3 c =
     let played = (let p : tie.After-run = search in p .run .ensures) in
     let most : a .clocks ≤ period = omega arith in
     let room : a .clocks ≤ length (a .levels .now) = omega arith in
-    let e = accepted-play (a .dac) (a .clocks) (a .levels .now) (may (a .clocks) _ most room) in
-    (e .0, played .0 ∙ e .1, played .1 ∙ e .2)
+    let allowed = may (a .clocks) _ most room in
+    let e = accepted-play (a .dac) (a .clocks) (a .levels .now) allowed in
+    (accepted-count (a .dac) (a .clocks) (a .levels .now) allowed _ _ (played .0) (omega arith), played .0 ∙ e .0, played .1 ∙ e .1)
 
 pub play-spec : {M : Type 1} → statement M
-play-spec = tie.close (tie.spec returns returns-2 run-requires same-length returns-3)
+play-spec = tie.close (tie.spec returns returns-2 run-requires cast-high cast-answer same-length returns-3)

@@ -8,6 +8,7 @@ use borrow.Author.Needs.{needs}
 use lib.ListN.{take}
 use lib.Seq.{length-take-le}
 use Rattle.wave.specs.Wave.{period, over, laid}
+use Rattle.wave.proofs.Within.{in-most}
 use Rattle.dac.specs.Running.{afterClocks, levelsOf}
 use Rattle.dac.proofs.Clocks.{position-small, run-within, run-across}
 use Rattle.dac.proofs.run.Statement.{statement}
@@ -34,6 +35,9 @@ sub-left c =
 playing-requires : tie.Need-playing-requires
 playing-requires c κs = search needs
 
+so-far-requires : tie.Need-so-far-requires
+so-far-requires c κs = search needs
+
 slice-relend-prefix-lay : tie.Need-slice-relend-prefix-lay
 slice-relend-prefix-lay c = search needs
 
@@ -51,6 +55,19 @@ add-after c = search needs
 cast-after : tie.Need-cast-after
 cast-after c = search needs
 
+cast-after-2 : tie.Need-cast-after-2
+cast-after-2 c = search needs
+
+add-after-2 : tie.Need-add-after-2
+add-after-2 c =
+    let k = (let p : tie.After-kept = search in p .kept) in
+    let first = (let p : tie.After-lay = search in p .lay .ensures .0) in
+    let before = (let p : tie.After-so-far = search in p .so-far .ensures) in
+    omega (arith, in-most _ _ _ _ first)
+
+cast-after-3 : tie.Need-cast-after-3
+cast-after-3 c = search needs
+
 same-length : tie.Need-same-length
 same-length c = search needs
 
@@ -60,11 +77,13 @@ returns-2 c =
     let fits = (let p : tie.Start = search in p .pre) in
     let k = (let p : tie.After-kept = search in p .kept) in
     let q = (let p : tie.After-playing = search in p .playing) in
+    let before = (let p : tie.After-so-far = search in p .so-far) in
     let first = (let p : tie.After-lay = search in p .lay) in
     let some : 0 < a .count = omega arith in
     let inside : k .result .position + a .count ≤ period = omega arith in
-    let levels : first .last .0 ≡ laid (q .result) (k .result .position) (take (a .count) (a .levels .now)) = first .ensures in
-    run-within (a .dac) (k .result) (q .result) (k .ensures) (q .ensures) (a .count) (a .levels .now) (fits .inRoom) _ some inside levels
+    let levels : first .last .0 ≡ laid (q .result) (k .result .position) (take (a .count) (a .levels .now)) = first .ensures .1 in
+    run-within (a .dac) (k .result) (q .result) (k .ensures) (q .ensures) (a .count) (a .levels .now) (fits .inRoom) (before .result) (first .result) _ _ some inside
+    (before .ensures) (first .ensures .0) (omega arith) levels
 
 sub-lay-from-start : tie.Need-sub-lay-from-start
 sub-lay-from-start c = search needs
@@ -77,6 +96,11 @@ part-lay-from-start-end c = search needs
 
 lay-from-start-requires : tie.Need-lay-from-start-requires
 lay-from-start-requires c κs = search needs
+
+cast-after-4 : tie.Need-cast-after-4
+cast-after-4 c =
+    let then = (let p : tie.After-lay-from-start = search in p .lay-from-start .ensures .0) in
+    omega (arith, in-most _ _ _ _ then)
 
 same-length-2 : tie.Need-same-length-2
 same-length-2 c = search needs
@@ -91,11 +115,13 @@ returns-3 c =
     let then = (let p : tie.After-lay-from-start = search in p .lay-from-start) in
     let left : ℕ = period - k .result .position in
     let past : left < a .count = omega arith in
-    let levels : first .last .0 ≡ laid (q .result) (k .result .position) (take (a .count) (a .levels .now)) = first .ensures in
-    run-across (a .dac) (k .result) (q .result) (k .ensures) (q .ensures) (a .count) (a .levels .now) (fits .inRoom) left refl past (fits .inPeriod) _ _ levels (then .ensures)
+    let levels : first .last .0 ≡ laid (q .result) (k .result .position) (take (a .count) (a .levels .now)) = first .ensures .1 in
+    run-across (a .dac) (k .result) (q .result) (k .ensures) (q .ensures) (a .count) (a .levels .now) (fits .inRoom) left refl past (fits .inPeriod) (then .result) _ _ _
+    levels (then .ensures .0) (omega arith) (then .ensures .1)
 
 pub run-spec : {M : Type 1} → statement M
 run-spec =
     tie.close
-    (tie.spec returns kept-requires cast-position sub-left playing-requires slice-relend-prefix-lay slice-aggregate-lay lay-requires add-after cast-after
-    same-length returns-2 sub-lay-from-start part-lay-from-start-start part-lay-from-start-end lay-from-start-requires same-length-2 returns-3)
+    (tie.spec returns kept-requires cast-position sub-left playing-requires so-far-requires slice-relend-prefix-lay slice-aggregate-lay lay-requires
+    add-after cast-after cast-after-2 add-after-2 cast-after-3 same-length returns-2 sub-lay-from-start part-lay-from-start-start
+    part-lay-from-start-end lay-from-start-requires cast-after-4 same-length-2 returns-3)

@@ -15,7 +15,7 @@ returns : tie.Need-returns
 returns c =
     let byte = (let p : tie.Start = search in p .args .byte) in
     let kept = (let p : tie.After-kept = search in p .kept .ensures) in
-    ap (λ (k : Dac). let made = pair (keptHalf byte) (k .held .fine) in dacOf (k .position) made made (k .in_force)) kept
+    ap (λ (k : Dac). let made = pair (keptHalf byte) (k .held .fine) in dacOf (k .position) made made (k .in_force) (k .high)) kept
 
 pub write-high-spec : {M : Type 1} → statement M
 write-high-spec = tie.close (tie.spec kept-requires returns)

@@ -15,7 +15,7 @@ returns : tie.Need-returns
 returns c =
     let byte = (let p : tie.Start = search in p .args .byte) in
     let kept = (let p : tie.After-kept = search in p .kept .ensures) in
-    ap (λ (k : Dac). dacOf (k .position) (pair (k .held .coarse) (keptHalf byte)) (k .completed) (k .in_force)) kept
+    ap (λ (k : Dac). dacOf (k .position) (pair (k .held .coarse) (keptHalf byte)) (k .completed) (k .in_force) (k .high)) kept
 
 pub write-low-spec : {M : Type 1} → statement M
 write-low-spec = tie.close (tie.spec kept-requires returns)

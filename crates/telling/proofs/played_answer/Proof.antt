@@ -7,31 +7,31 @@ use Rattle.answer.proofs.Tells.{tells}
 use Rattle.telling.proofs.played_answer.Statement.{statement}
 use Rattle.telling.proofs.played_answer.Tie as tie
 
-enum-told : tie.Need-enum-told
-enum-told c = search needs
+enum-known-played : tie.Need-enum-known-played
+enum-known-played c = search needs
 
 accepted-requires : tie.Need-accepted-requires
 accepted-requires c κs = search needs
 
-enum-told-2 : tie.Need-enum-told-2
-enum-told-2 c = search needs
+enum-told : tie.Need-enum-told
+enum-told c = search needs
 
 refused-requires : tie.Need-refused-requires
 refused-requires c κs = search needs
 
 returns : tie.Need-returns
-returns c = tells said All (c .before .enum-told .given .1) (c .accepted .ensures)
+returns c = tells said (All _) (c .before .before .played .given .1) (c .accepted .ensures)
 
 returns-2 : tie.Need-returns-2
-returns-2 c = tells said TooMany (c .before .enum-told2 .given .1) (c .refused .ensures)
+returns-2 c = tells said TooMany (c .before .enum-told .given .1) (c .refused .ensures)
 
 pub played-answer-spec : {M : Type 1} → statement M
 played-answer-spec =
     tie.close
     (tie.spec
-    enum-told
+    enum-known-played
     accepted-requires
-    enum-told-2
+    enum-told
     refused-requires
     returns
     returns-2)

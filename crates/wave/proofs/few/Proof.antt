@@ -1,4 +1,4 @@
--- `wave::few` meets its contract: a byte is high before the turn, so the bytes passed have the levels from the clock on.
+-- `wave::few` meets its contract: a byte is high before the turn, so the bytes passed are a pulse up to it.
 -- Assumes nothing.
 use Prim.Native.Nat.{_-_, _≤_}
 use mathlib.Core.Path.{_∙_}
@@ -15,13 +15,10 @@ use Rattle.wave.proofs.few.Statement.{statement}
 use Rattle.wave.proofs.few.Tie as tie
 
 abbrev Inv-loop : tie.InvT-loop
-Inv-loop levels₀ clock high turn i₀ levels i = (i ≤ length levels₀) × Filled (λ k. levelBelow k turn) i levels levels₀
+Inv-loop levels₀ turn i₀ levels i = (i ≤ length levels₀) × Filled (λ k. levelBelow k turn) i levels levels₀
 
 abbrev μ-loop : tie.MeasureT-loop
-μ-loop levels₀ clock high turn i₀ levels i = length levels₀ - i
-
-beyond-requires : tie.Need-beyond-requires Inv-loop μ-loop
-beyond-requires c κs = search needs
+μ-loop levels₀ turn i₀ levels i = length levels₀ - i
 
 loop-holds : tie.Need-loop-holds Inv-loop μ-loop
 loop-holds c = (omega arith, filled-none _ _)
@@ -50,13 +47,12 @@ same-length c = omega arith
 returns : tie.Need-returns Inv-loop μ-loop
 returns c =
     let a = (let p : tie.Start Inv-loop μ-loop = search in p .args) in
-    let turn = (let p : tie.After-beyond Inv-loop μ-loop = search in p .beyond) in
     let l = (let p : tie.At-loop Inv-loop μ-loop = search in p .loop) in
     let s = a .levels .now in
     filled-all _ (length s) (l .i) (l .levels) s (omega arith) (omega arith) (l .inv .1)
-    ∙ rw (drop-length s) (append-nil (tabulate (length s) (λ k. levelBelow k (turn .result))))
-    ∙ turned (a .clock) (a .high) (turn .result) (length s) (turn .ensures)
+    ∙ rw (drop-length s) (append-nil (tabulate (length s) (λ k. levelBelow k (a .turn))))
+    ∙ turned (a .turn) (length s)
 
 pub few-spec : {M : Type 1} → statement M
 few-spec =
-    tie.close (tie.spec Inv-loop μ-loop beyond-requires loop-holds level-below-requires slice-write-levels add-i loop-less loop-again same-length returns)
+    tie.close (tie.spec Inv-loop μ-loop loop-holds level-below-requires slice-write-levels add-i loop-less loop-again same-length returns)

@@ -7,7 +7,7 @@ use borrow.Author.Needs.{needs}
 use lib.ListN.{length, take}
 use lib.Seq.{length-take-le}
 use Rattle.wave.specs.Wave.{period}
-use Rattle.wave.proofs.Within.{past-end, first-laid, laid-all}
+use Rattle.wave.proofs.Within.{past-end, first-laid, all-laid}
 use Rattle.wave.proofs.lay.Statement.{statement}
 use Rattle.wave.proofs.lay.Tie as tie
 
@@ -15,7 +15,7 @@ returns : tie.Need-returns
 returns c =
     let a = (let p : tie.Start = search in p .args) in
     let past : period ≤ a .from = omega arith in
-    past-end (a .pair) (a .from) (a .levels .now) past
+    past-end (a .pair) (a .from) (a .levels .now) past _ (omega arith)
 
 sub-left : tie.Need-sub-left
 sub-left c = search needs
@@ -31,7 +31,7 @@ returns-2 c =
     let a = (let p : tie.Start = search in p .args) in
     let within = (let p : tie.After-lay-within = search in p .lay-within .ensures) in
     let inside : a .from + length (a .levels .now) ≤ period = omega arith in
-    within ∙ sym (laid-all (a .pair) (a .from) (a .levels .now) inside)
+    all-laid (a .pair) (a .from) (a .levels .now) _ _ inside within
 
 sub-least : tie.Need-sub-least
 sub-least c = search needs
@@ -53,7 +53,7 @@ lay-across-requires c κs =
     let s = (let p : tie.Start = search in p .args .levels .now) in
     let n = (let p : tie.After-least = search in p .least .result) in
     let room : length (take n s) ≡ n = length-take-le n s (omega arith) in
-    (omega (arith, room), omega (arith, room))
+    omega (arith, room)
 
 same-length-2 : tie.Need-same-length-2
 same-length-2 c = search needs
@@ -62,12 +62,40 @@ returns-3 : tie.Need-returns-3
 returns-3 c =
     let a = (let p : tie.Start = search in p .args) in
     let n = (let p : tie.After-least = search in p .least) in
-    let across = (let p : tie.After-lay-across = search in p .lay-across .ensures) in
+    let laid = (let p : tie.After-lay-across = search in p .lay-across .ensures) in
     let reach : n .result ≡ min (length (a .levels .now)) (period - a .from) = omega (arith, n .ensures) in
-    first-laid (a .pair) (a .from) (a .levels .now) (n .result) _ reach across
+    first-laid (a .pair) (a .from) (a .levels .now) (n .result) _ _ reach laid
+
+slice-relend-prefix-lay-long : tie.Need-slice-relend-prefix-lay-long
+slice-relend-prefix-lay-long c = search needs
+
+slice-aggregate-lay-long : tie.Need-slice-aggregate-lay-long
+slice-aggregate-lay-long c =
+    let s = (let p : tie.Start = search in p .args .levels .now) in
+    let n = (let p : tie.After-least = search in p .least .result) in
+    sym (length-take-le n s (omega arith))
+
+lay-long-requires : tie.Need-lay-long-requires
+lay-long-requires c κs =
+    let s = (let p : tie.Start = search in p .args .levels .now) in
+    let n = (let p : tie.After-least = search in p .least .result) in
+    let room : length (take n s) ≡ n = length-take-le n s (omega arith) in
+    (omega (arith, room), omega (arith, room))
+
+same-length-3 : tie.Need-same-length-3
+same-length-3 c = search needs
+
+returns-4 : tie.Need-returns-4
+returns-4 c =
+    let a = (let p : tie.Start = search in p .args) in
+    let n = (let p : tie.After-least = search in p .least) in
+    let laid = (let p : tie.After-lay-long = search in p .lay-long .ensures) in
+    let reach : n .result ≡ min (length (a .levels .now)) (period - a .from) = omega (arith, n .ensures) in
+    first-laid (a .pair) (a .from) (a .levels .now) (n .result) _ _ reach laid
 
 pub lay-spec : {M : Type 1} → statement M
 lay-spec =
     tie.close
     (tie.spec returns sub-left lay-within-requires same-length returns-2 sub-least least-requires slice-relend-prefix-lay-across
-    slice-aggregate-lay-across lay-across-requires same-length-2 returns-3)
+    slice-aggregate-lay-across lay-across-requires same-length-2 returns-3 slice-relend-prefix-lay-long slice-aggregate-lay-long lay-long-requires
+    same-length-3 returns-4)

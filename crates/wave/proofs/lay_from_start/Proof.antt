@@ -37,9 +37,9 @@ returns : tie.Need-returns
 returns c =
     let a = (let p : tie.Start = search in p .args) in
     let n = (let p : tie.After-least = search in p .least) in
-    let levels = (let p : tie.After-lay-on = search in p .lay-on .ensures) in
+    let laid = (let p : tie.After-lay-on = search in p .lay-on .ensures) in
     let reach : n .result ≡ min (length (a .levels .now)) (period - 0) = omega (arith, n .ensures) in
-    first-laid (a .pair) 0 (a .levels .now) (n .result) _ reach levels
+    first-laid (a .pair) 0 (a .levels .now) (n .result) _ _ reach laid
 
 pub lay-from-start-spec : {M : Type 1} → statement M
 lay-from-start-spec = tie.close (tie.spec least-requires slice-relend-prefix-lay-on slice-aggregate-lay-on lay-on-requires same-length returns)

@@ -6,15 +6,15 @@ use native.Mathlib.Omega.{arith}
 use borrow.Author.Needs.{needs}
 use lib.ListN.{length}
 use Rattle.wave.specs.Steps.{highIn}
-use Rattle.wave.proofs.Within.{within-laid, Begun, begun-none, begun-more, begun-all, begun-rest}
+use Rattle.wave.proofs.Within.{lays-most, within-laid, Begun, begun-none, begun-more, begun-all, begun-rest}
 use Rattle.wave.proofs.lay_on.Statement.{statement}
 use Rattle.wave.proofs.lay_on.Tie as tie
 
 abbrev Inv-loop : tie.InvT-loop
-Inv-loop levels₀ pair from i₀ levels i = (i % 128 ≡ 0) × Begun pair from i levels levels₀
+Inv-loop levels₀ pair from high₀ i₀ levels high i = (i % 128 ≡ 0) × Begun pair from i high levels levels₀
 
 abbrev μ-loop : tie.MeasureT-loop
-μ-loop levels₀ pair from i₀ levels i = length levels₀ - i
+μ-loop levels₀ pair from high₀ i₀ levels high i = length levels₀ - i
 
 loop-holds : tie.Need-loop-holds Inv-loop μ-loop
 loop-holds c = (omega arith, begun-none _ _ _)
@@ -46,6 +46,11 @@ part-sub-period-end c = search needs
 sub-period-requires : tie.Need-sub-period-requires Inv-loop μ-loop
 sub-period-requires c κs = search needs
 
+add-high : tie.Need-add-high Inv-loop μ-loop
+add-high c =
+    let l = (let p : tie.At-loop Inv-loop μ-loop = search in p .loop) in
+    omega (arith, l .inv .1)
+
 loop-less : tie.Need-loop-less Inv-loop μ-loop
 loop-less c = search needs
 
@@ -54,8 +59,8 @@ loop-again c =
     let a = (let p : tie.Start Inv-loop μ-loop = search in p .args) in
     let l = (let p : tie.At-loop Inv-loop μ-loop = search in p .loop) in
     let laid = (let p : tie.After-sub-period Inv-loop μ-loop = search in p .sub-period) in
-    let is = within-laid (a .pair) (a .from + l .i) _ _ _ _ (laid .ensures) (omega arith) (ap (highIn (a .pair)) (omega arith)) (omega arith) in
-    (omega arith, begun-more (a .pair) (a .from) (l .i) (l .i + 128) (l .levels) _ _ (l .inv .1) (omega arith) (omega arith) is)
+    let is = within-laid (a .pair) (a .from + l .i) _ _ _ (laid .result) _ (laid .ensures .1) (omega arith) (omega arith) (ap (highIn (a .pair)) (omega arith)) (omega arith) in
+    (omega arith, begun-more (a .pair) (a .from) (l .i) (l .i + 128) _ _ _ (l .levels) _ _ (l .inv .1) (omega arith) (omega arith) is (omega arith))
 
 same-length : tie.Need-same-length Inv-loop μ-loop
 same-length c = omega arith
@@ -63,7 +68,7 @@ same-length c = omega arith
 returns : tie.Need-returns Inv-loop μ-loop
 returns c =
     let l = (let p : tie.At-loop Inv-loop μ-loop = search in p .loop) in
-    begun-all _ _ (l .i) (l .levels) _ (omega arith) (l .inv .1)
+    begun-all _ _ (l .i) _ (l .levels) _ (omega arith) (l .inv .1)
 
 sub-lay-within : tie.Need-sub-lay-within Inv-loop μ-loop
 sub-lay-within c = search needs
@@ -80,6 +85,12 @@ add-lay-within c = search needs
 lay-within-requires : tie.Need-lay-within-requires Inv-loop μ-loop
 lay-within-requires c κs = search needs
 
+add-result : tie.Need-add-result Inv-loop μ-loop
+add-result c =
+    let l = (let p : tie.At-loop Inv-loop μ-loop = search in p .loop) in
+    let laid = (let p : tie.After-lay-within Inv-loop μ-loop = search in p .lay-within .ensures) in
+    omega (arith, l .inv .1, lays-most _ _ _ _ _ laid)
+
 same-length-2 : tie.Need-same-length-2 Inv-loop μ-loop
 same-length-2 c = search needs
 
@@ -88,11 +99,11 @@ returns-2 c =
     let a = (let p : tie.Start Inv-loop μ-loop = search in p .args) in
     let l = (let p : tie.At-loop Inv-loop μ-loop = search in p .loop) in
     let laid = (let p : tie.After-lay-within Inv-loop μ-loop = search in p .lay-within) in
-    begun-rest (a .pair) (a .from) (l .i) _ (l .levels) _ _ (l .inv .1) (laid .ensures) (omega arith)
+    begun-rest (a .pair) (a .from) (l .i) _ _ _ _ (l .levels) _ _ (l .inv .1) (laid .ensures) (omega arith) (omega arith)
 
 pub lay-on-spec : {M : Type 1} → statement M
 lay-on-spec =
     tie.close
     (tie.spec Inv-loop μ-loop loop-holds sub-loop add-end add-n add-clock cast-clock sub-sub-period part-sub-period-start part-sub-period-end
-    sub-period-requires loop-less loop-again same-length returns sub-lay-within part-lay-within-start part-lay-within-end add-lay-within
-    lay-within-requires same-length-2 returns-2)
+    sub-period-requires add-high loop-less loop-again same-length returns sub-lay-within part-lay-within-start part-lay-within-end add-lay-within
+    lay-within-requires add-result same-length-2 returns-2)

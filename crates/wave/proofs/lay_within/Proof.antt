@@ -1,17 +1,25 @@
 -- `wave::lay_within` meets its contract: the levels of one sub-period are a pulse.
 -- Assumes nothing.
+use Prim.Native.Nat.{_%_}
+use mathlib.Core.Path.{_∙_}
 use native.Mathlib.Omega.{arith}
 use borrow.Author.Needs.{needs}
 use lib.ListN.{length}
-use Rattle.wave.proofs.Within.{within-laid}
+use Rattle.wave.proofs.Within.{within-laid, from-turn}
 use Rattle.wave.proofs.lay_within.Statement.{statement}
 use Rattle.wave.proofs.lay_within.Tie as tie
 
 high-in-requires : tie.Need-high-in-requires
 high-in-requires c κs = search needs
 
-cast-few : tie.Need-cast-few
-cast-few c = search needs
+cast-beyond : tie.Need-cast-beyond
+cast-beyond c = search needs
+
+beyond-requires : tie.Need-beyond-requires
+beyond-requires c κs = search needs
+
+least-requires : tie.Need-least-requires
+least-requires c κs = search needs
 
 few-requires : tie.Need-few-requires
 few-requires c κs = search needs
@@ -22,9 +30,11 @@ same-length c = search needs
 returns : tie.Need-returns
 returns c =
     let a = (let p : tie.Start = search in p .args) in
-    let high = (let p : tie.After-high-in = search in p .high-in .ensures) in
+    let high = (let p : tie.After-high-in = search in p .high-in) in
+    let turn = (let p : tie.After-beyond = search in p .beyond .ensures) in
     let laid = (let p : tie.After-few = search in p .few .ensures) in
-    within-laid (a .pair) (a .from) _ _ (length (a .levels .now)) _ laid (omega arith) high (omega arith)
+    let n = length (a .levels .now) in
+    within-laid (a .pair) (a .from) _ _ n _ _ (laid ∙ from-turn (a .from % 128) (high .result) _ n turn) (omega arith) (omega arith) (high .ensures) (omega arith)
 
 cast-many : tie.Need-cast-many
 cast-many c = search needs
@@ -40,7 +50,7 @@ returns-2 c =
     let a = (let p : tie.Start = search in p .args) in
     let high = (let p : tie.After-high-in = search in p .high-in .ensures) in
     let laid = (let p : tie.After-many = search in p .many .ensures) in
-    within-laid (a .pair) (a .from) _ _ (length (a .levels .now)) _ laid (omega arith) high (omega arith)
+    within-laid (a .pair) (a .from) _ _ (length (a .levels .now)) _ _ laid (omega arith) (omega arith) high (omega arith)
 
 cast-many-2 : tie.Need-cast-many-2
 cast-many-2 c = search needs
@@ -56,9 +66,9 @@ returns-3 c =
     let a = (let p : tie.Start = search in p .args) in
     let high = (let p : tie.After-high-in = search in p .high-in .ensures) in
     let laid = (let p : tie.After-many2 = search in p .many2 .ensures) in
-    within-laid (a .pair) (a .from) _ _ (length (a .levels .now)) _ laid (omega arith) high (omega arith)
+    within-laid (a .pair) (a .from) _ _ (length (a .levels .now)) _ _ laid (omega arith) (omega arith) high (omega arith)
 
 pub lay-within-spec : {M : Type 1} → statement M
 lay-within-spec =
-    tie.close (tie.spec high-in-requires cast-few few-requires same-length returns cast-many many-requires same-length-2 returns-2 cast-many-2
+    tie.close (tie.spec high-in-requires cast-beyond beyond-requires least-requires few-requires same-length returns cast-many many-requires same-length-2 returns-2 cast-many-2
     many-requires-2 same-length-3 returns-3)

@@ -34,7 +34,7 @@ returns c =
     let high = (let p : tie.After-least = search in p .least .result) in
     let laid = (let p : tie.After-many = search in p .many .ensures) in
     let clocks : high ≡ highIn (a .pair) (a .n) = omega arith in
-    laid ∙ ap (λ (x : ℕ). pulse (a .clock) x (length (a .levels .now))) clocks
+    (clocks, laid ∙ ap (λ (x : ℕ). pulse (a .clock) x (length (a .levels .now))) clocks)
 
 add-least : tie.Need-add-least
 add-least c = search needs
@@ -57,7 +57,7 @@ returns-2 c =
     let high = (let p : tie.After-least2 = search in p .least2 .result) in
     let laid = (let p : tie.After-many2 = search in p .many2 .ensures) in
     let clocks : high ≡ highIn (a .pair) (a .n) = omega (arith, added-le (a .pair .fine) (a .n)) in
-    laid ∙ ap (λ (x : ℕ). pulse (a .clock) x (length (a .levels .now))) clocks
+    (clocks, laid ∙ ap (λ (x : ℕ). pulse (a .clock) x (length (a .levels .now))) clocks)
 
 pub sub-period-spec : {M : Type 1} → statement M
 sub-period-spec =

@@ -26,14 +26,14 @@ use Rattle.dirgeflint.proofs.dac_face.dirgeflint_dac_play.Statement as 
 -- the promises of the step and of the telling, and the function's own
 abbrev Says : Dac → ℕ → List ℕ → Dac → Played → List ℕ → Type 0
 Says before clocks lent after case now =
-    (said case ≡ answerOf clocks (length lent)) × (after ≡ afterPlay before clocks (length lent)) × (now ≡ lentAfter before clocks lent)
+    (said case ≡ answerOf before clocks (length lent)) × (after ≡ afterPlay before clocks (length lent)) × (now ≡ lentAfter before clocks lent)
 
 abbrev Tells : Played → Answer → Type 0
 Tells case answer = told answer ≡ said case
 
 abbrev Claims : Dac → ℕ → List ℕ → Dac → Answer → List ℕ → Type 0
 Claims before clocks lent after answer now =
-    (told answer ≡ answerOf clocks (length lent)) × (after ≡ afterPlay before clocks (length lent)) × (now ≡ lentAfter before clocks lent)
+    (told answer ≡ answerOf before clocks (length lent)) × (after ≡ afterPlay before clocks (length lent)) × (now ≡ lentAfter before clocks lent)
 
 so : (before : Dac) (clocks : ℕ) (lent : List ℕ) (after : Dac) (case : Played) (answer : Answer) (now : List ℕ)
     → Says before clocks lent after case now → Tells case answer → Claims before clocks lent after answer now
