@@ -25,12 +25,12 @@
 #include <stdint.h>
 
 /*
- * The minor number goes up with every delivery, also with one in which nothing changes for a host, the major one when declarations or
- * layouts change, so that every host has to be compiled again. CHANGELOG.md tells what changed.
+ * The minor number goes up with every delivery, also with one in which nothing changes for a host; the major one when declarations or
+ * layouts change, so that every host has to be compiled again, and the minor one is then 0 again. CHANGELOG.md tells what changed.
  */
-#define DIRGEFLINT_VERSION_MAJOR 1
-#define DIRGEFLINT_VERSION_MINOR 4
-#define DIRGEFLINT_VERSION "1.4"
+#define DIRGEFLINT_VERSION_MAJOR 2
+#define DIRGEFLINT_VERSION_MINOR 0
+#define DIRGEFLINT_VERSION "2.0"
 
 #ifdef __cplusplus
 extern "C" {
@@ -160,8 +160,16 @@ dirgeflint_answer dirgeflint_pulse_level(uint32_t channel, uint8_t byte, uint32_
  * held. The pair completed last comes into force as the first clock of a period is played, and stays for that whole period: nothing
  * written meanwhile alters it. So to tune: write_low(fine), write_high(coarse), play.
  *
- * The host has one running record and lends it to each call; start with dirgeflint_dac_reset. Any record is taken: its halves count
- * modulo 128, its position modulo 16,384, and every call but a refused play and a play of 0 clocks leaves such kept values.
+ * The host has one running record and lends it to each call; start with dirgeflint_dac_reset. Any record is taken: its halves are used
+ * modulo 128, its position and its count of high clocks modulo 16,384, and every call but a refused play and a play of 0 clocks leaves
+ * such kept values.
+ *
+ * The record counts the high clocks, so that no host has to add up levels: high is how many there were since the latest first clock of a
+ * period, that clock included, in however many plays. Within a period it is the sum of the bytes that were played of it so far, and after
+ * the last clock it is T of the pair in force. Writes leave it, and so it stays until the next period's first clock is played, which
+ * starts it anew. A play that goes past the end of a period leaves the count of the period in which it ends; to have that of the period
+ * before, play to its end first, which is DIRGEFLINT_PERIOD - position clocks. In a record that the host made up the count goes on from
+ * the number that stands there, modulo 16,384, and until the next first clock it need not be a sum of bytes that were played.
  *
  * On a set, before you tune: by the PCA84C646's own sheet the low write completes the pair, not the high one (S36 to S38); the same two
  * halves are high for 16,383 - T clocks, so that a preset loaded unchanged is mirrored (S41 to S43); a new pair takes effect inside the
@@ -177,10 +185,11 @@ typedef struct dirgeflint_dac {
     dirgeflint_pair held;      /* what the high and the low register keep */
     dirgeflint_pair completed; /* the latest completed pair */
     dirgeflint_pair in_force;  /* the pair that is being played */
+    uint16_t high;             /* high clocks since the latest first clock of a period */
 } dirgeflint_dac;
 
 /*
- * Makes the record what it is after reset: 0 everywhere, so that nothing is high until a pair is written.
+ * Makes the record what it is after reset: 0 everywhere, so that no clock was high, and none will be until a pair is written.
  *
  * On a set the halves are 0 after reset as well, but by the sheet that is the widest output, 16,383 clocks of 16,384: enabled before the
  * first write, the tuning voltage is at the top (S63).
@@ -195,9 +204,12 @@ void dirgeflint_dac_write_high(dirgeflint_dac *dac, uint8_t byte);
 
 /*
  * Plays so many clocks: the first bytes of levels become their levels, a byte each, 1 if high and 0 if low, and the position moves on, from
- * 16,383 to 0. What levels holds past them stays. With 0 clocks nothing changes.
+ * 16,383 to 0. The clock at position 0 makes high its own level, and every other clock adds its level to it. What levels holds past them
+ * stays. With 0 clocks nothing changes.
  *
- * Refuses 14: clocks above 16,384, or above levels_length. The record is then left as it was, made up or not.
+ * value   high after the play, 0 to 16,383. It is what the record has then; but a play of 0 clocks, which leaves a record that was made up
+ *         as it is, gives its count modulo 16,384: 6 if high is 16,390.
+ * Refuses 14: clocks above 16,384, or above levels_length. The record is then left as it was, made up or not, and value is no count but 0.
  */
 dirgeflint_answer dirgeflint_dac_play(dirgeflint_dac *dac, uint32_t clocks, uint8_t *levels, size_t levels_length);
 
