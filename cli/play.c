@@ -12,26 +12,29 @@
 
 struct player {
     dirgeflint_dac dac;
-    uint64_t period;       /* the number of the period under way, from 1 */
-    uint32_t clocks, high; /* of it, so far */
-    FILE *lines;           /* where the periods are told */
-    struct wave wave;      /* without a stream if none is asked for */
+    uint64_t period;  /* the number of the period under way, from 1 */
+    FILE *lines;      /* where the periods are told */
+    struct wave wave; /* without a stream if none is asked for */
 };
 
-/* Tells of the period under way, if a clock of it was played, and begins the next. */
+/* Tells of the period whose clocks were played last, whole if the position is 0 again, and begins the next. */
 static void end_period(struct player *player)
 {
     dirgeflint_pair pair = player->dac.in_force;
-    if (player->clocks == 0)
-        return;
-    fprintf(player->lines, "period %" PRIu64 ": coarse %d fine %d T %d high %" PRIu32, player->period, pair.coarse, pair.fine,
-            DIRGEFLINT_SUB_PERIODS * pair.coarse + pair.fine, player->high);
-    if (player->clocks < DIRGEFLINT_PERIOD)
-        fprintf(player->lines, " in %" PRIu32 " clock%s", player->clocks, player->clocks == 1 ? "" : "s");
+    int clocks = player->dac.position;
+    fprintf(player->lines, "period %" PRIu64 ": coarse %d fine %d T %d high %d", player->period, pair.coarse, pair.fine,
+            DIRGEFLINT_SUB_PERIODS * pair.coarse + pair.fine, player->dac.high);
+    if (clocks > 0)
+        fprintf(player->lines, " in %d clock%s", clocks, clocks == 1 ? "" : "s");
     fputc('\n', player->lines);
     player->period++;
-    player->clocks = 0;
-    player->high = 0;
+}
+
+/* Ends a period of which some clocks were played, but not all. */
+static void cut_period(struct player *player)
+{
+    if (player->dac.position > 0)
+        end_period(player);
 }
 
 /* Plays clocks that lie in one period, so that one pair is in force for all of them. */
@@ -42,19 +45,16 @@ static dirgeflint_answer play_piece(struct player *player, uint32_t clocks)
     dirgeflint_answer answer = take_event(&player->dac, piece, levels);
     if (answer.number != DIRGEFLINT_ACCEPTED)
         return answer;
-    for (uint32_t i = 0; i < clocks; i++)
-        player->high += levels[i];
     if (player->wave.stream != NULL)
         add_to_wave(&player->wave, player->dac.in_force, levels, clocks);
-    player->clocks += clocks;
-    if (player->clocks == DIRGEFLINT_PERIOD)
+    if (clocks > 0 && player->dac.position == 0)
         end_period(player);
     return answer;
 }
 
 static dirgeflint_answer play_clocks(struct player *player, uint32_t clocks)
 {
-    uint32_t left = DIRGEFLINT_PERIOD - player->clocks, first = clocks < left ? clocks : left;
+    uint32_t left = DIRGEFLINT_PERIOD - player->dac.position, first = clocks < left ? clocks : left;
     dirgeflint_answer answer = play_piece(player, first);
     if (answer.number == DIRGEFLINT_ACCEPTED && clocks > first)
         answer = play_piece(player, clocks - first);
@@ -66,7 +66,7 @@ static dirgeflint_answer play_event(struct player *player, struct event event)
     if (event.kind == PLAY)
         return play_clocks(player, event.number);
     if (event.kind == RESET)
-        end_period(player);
+        cut_period(player);
     return take_event(&player->dac, event, NULL);
 }
 
@@ -78,7 +78,7 @@ static int play_events(struct player *player, const struct events *events)
             return refused(PROGRAM, 0, answer, "playing: %s", dirgeflint_reason(answer.number));
         tell_progress("events played", i + 1, events->count);
     }
-    end_period(player);
+    cut_period(player);
     end_progress();
     return DONE;
 }
