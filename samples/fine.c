@@ -11,8 +11,8 @@ static uint8_t levels[DIRGEFLINT_SUB_PERIODS][DIRGEFLINT_SUB_PERIOD];
 /* The fine bit that serves each sub-period, or NONE. */
 static int serving[DIRGEFLINT_SUB_PERIODS];
 
-/* Plays a period of a pair, from reset. */
-static void play(unsigned coarse, unsigned fine)
+/* Plays a period of a pair, from reset, and gives how many of its clocks were high. */
+static unsigned play(unsigned coarse, unsigned fine)
 {
     dirgeflint_dac dac;
     dirgeflint_dac_reset(&dac);
@@ -23,6 +23,7 @@ static void play(unsigned coarse, unsigned fine)
         fprintf(stderr, "fine: %s (refused %u)\n", dirgeflint_reason(a.number), (unsigned)a.number);
         exit(1);
     }
+    return (unsigned)a.value;
 }
 
 /* Plays each bit alone, with coarse 0: the clocks that it adds are then the only high ones, each the first of a sub-period that no other bit serves. */
@@ -82,13 +83,11 @@ static void tell(int bit)
 /* A column for each sub-period, as high as it has high clocks; below it, if it has one more than the coarse half says, the bit that added it. */
 static void draw(unsigned coarse, unsigned fine)
 {
-    unsigned high = 0;
+    unsigned high = play(coarse, fine);
     int rows = 0, last = NONE;
-    play(coarse, fine);
     for (int n = 0; n < DIRGEFLINT_SUB_PERIODS; n++)
         for (int clock = 0; clock < DIRGEFLINT_SUB_PERIOD; clock++)
             if (levels[n][clock] == 1) {
-                high++;
                 if (rows <= clock)
                     rows = clock + 1;
                 if (clock == (int)coarse)

@@ -1,4 +1,5 @@
-//! A Rust host of the library: tunes the DAC to coarse 1, fine 3 and counts the high clocks of one period, which are 131.
+//! A Rust host of the library: tunes the DAC to coarse 1, fine 3, plays a period in two calls, and tells the count of its high clocks, which is 41 after 5000 clocks
+//! and 131 at the end.
 //! samples/try samples/host.rs compiles and runs it.
 
 #[repr(C)]
@@ -13,6 +14,7 @@ struct Dac {
     held: Pair,
     completed: Pair,
     in_force: Pair,
+    high: u16,
 }
 
 #[repr(C)]
@@ -50,11 +52,12 @@ impl Dac {
         }
     }
 
-    fn play(&mut self, clocks: u32, levels: &mut [u8]) -> Result<(), u32> {
+    // How many clocks were high since the latest first clock of a period; or the number of the refusal.
+    fn play(&mut self, clocks: u32, levels: &mut [u8]) -> Result<u32, u32> {
         // The library writes to the record and to the slice, and nowhere else.
         let answer = unsafe { dirgeflint_dac_play(self, clocks, levels.as_mut_ptr(), levels.len()) };
         match answer.number {
-            0 => Ok(()),
+            0 => Ok(answer.value),
             number => Err(number),
         }
     }
@@ -64,7 +67,10 @@ fn main() {
     let mut dac = Dac::new();
     let mut levels = [0; PERIOD as usize];
     dac.tune(1, 3);
-    dac.play(PERIOD, &mut levels).expect("a period fits");
-    println!("high clocks of a period: {}", levels.iter().filter(|&&level| level == 1).count());
+    let so_far = dac.play(5000, &mut levels).expect("5000 clocks fit");
+    println!("high clocks so far: {so_far}");
+    dac.play(PERIOD - 5000, &mut levels).expect("the rest of a period fits");
+    // The record has the count too, and keeps it until the next period begins.
+    println!("high clocks of a period: {}", dac.high);
     println!("one clock too many: refused with {}", dac.play(PERIOD + 1, &mut levels).unwrap_err());
 }

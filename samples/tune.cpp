@@ -1,4 +1,5 @@
-// Tunes the DAC twice and plays three periods, with the second tuning inside the first period: what a test of station presets does. C++11.
+// Tunes the DAC twice, with the second tuning inside the first period, plays three periods and tells the count of high clocks of each: what a test of station
+// presets does. C++11.
 #include "dirgeflint.h"
 #include <algorithm>
 #include <cstddef>
@@ -30,26 +31,29 @@ public:
 
     unsigned share() const { return 128u * record.in_force.coarse + record.in_force.fine; }
 
+    // How many clocks were high since the latest first clock of a period; after the period's last clock that is share().
+    unsigned high() const { return record.high; }
+
 private:
     dirgeflint_dac record;
 };
 
-static long high(const std::vector<std::uint8_t> &levels)
+static void tell(int period, const Dac &dac)
 {
-    return static_cast<long>(std::count(levels.begin(), levels.end(), std::uint8_t{1}));
+    std::cout << "period " << period << ": T " << dac.share() << " high " << dac.high() << '\n';
 }
 
 int main()
 {
     Dac dac;
     dac.tune(1, 3);
-    long first = high(dac.play(5000));
+    dac.play(5000);
     dac.tune(64, 0); // waits for the next period
-    first += high(dac.play(DIRGEFLINT_PERIOD - 5000));
-    std::cout << "period 1: T " << dac.share() << " high " << first << '\n';
+    dac.play(DIRGEFLINT_PERIOD - 5000);
+    tell(1, dac);
     for (int n = 2; n <= 3; n++) {
-        const long count = high(dac.play(DIRGEFLINT_PERIOD));
-        std::cout << "period " << n << ": T " << dac.share() << " high " << count << '\n';
+        dac.play(DIRGEFLINT_PERIOD);
+        tell(n, dac);
     }
     try {
         dac.play(DIRGEFLINT_PERIOD + 1);
