@@ -6,16 +6,16 @@ use mathlib.Core.Path.{_≡_, refl, sym, ap, ap₂, _∙_}
 use mathlib.Core.Bool.{Bool, true, false}
 use mathlib.Core.List.{List, [], _∷_, _++_, append-assoc, append-nil}
 use native.Mathlib.Nat.{zero-add, suc-add, add-suc, add-zero}
-use native.Mathlib.Decide.{decLt}
+use native.Mathlib.Decide.{ℕ-discrete, decLt}
 use native.Mathlib.Omega.{arith}
 use lib.Dec.{ltb}
-use lib.ListN.{length, take, drop, replicate, length-append, length-drop}
-use lib.Seq.{take-at, drop-at, drop-drop, drop-length, length-take-le}
-use borrow.Author.Tests.{ltb-true, ltb-false}
+use lib.ListN.{length, getD, take, drop, set, replicate, length-append, length-drop, length-set}
+use lib.Seq.{take-at, drop-at, drop-drop, drop-length, length-take-le, getD-set-same, getD-set-other}
+use borrow.Author.Tests.{ltb-true, ltb-false, lt-ltb, le-ltb}
 use Rattle.laws.specs.Pick.{pick}
 use Rattle.laws.specs.Lists.{tabulate}
 use Rattle.laws.specs.Sums.{sumAll}
-use Rattle.laws.proofs.Lists.{length-tabulate, tabulate-same}
+use Rattle.laws.proofs.Lists.{length-tabulate, getD-tabulate, is-tabulate, tabulate-same}
 use Rattle.laws.proofs.Sums.{sum-append, sum-same}
 use Rattle.wave.specs.declared.Pair.{Pair}
 use Rattle.wave.specs.Wave.{period, subPeriod, added, level, wave, waveIn, laid}
@@ -129,6 +129,14 @@ sum-pulse i x n =
     let l : ℕ = n - (x - i) in
     omega (arith, sum-append (replicate h 1) (replicate l 0), sum-same h 1, sum-same l 0)
 
+-- a level by what is left, which is 128 or more before the turn
+pub level-left : (left i : ℕ) → i ≤ left → left < 256 → (left - i) / 128 ≡ levelBelow (127 + i) left
+level-left left i most small = go (ltb (127 + i) left) refl
+  where
+    go : (b : Bool) → ltb (127 + i) left ≡ b → (left - i) / 128 ≡ pick b 1 0
+    go true t = let below = ltb-true (127 + i) left t in omega arith
+    go false t = let above = ltb-false (127 + i) left t in omega arith
+
 -- clock by clock
 pub pulse-is : (i x n : ℕ) → pulse i x n ≡ tabulate n (λ k. levelBelow (i + k) x)
 unfolding tabulate
@@ -144,12 +152,24 @@ as-pulse q a n h =
     let e : a ≡ subPeriod * (a / subPeriod) + a % subPeriod = omega arith in
     ap (λ (p : ℕ). wave q p n) e ∙ within-sub q (a / subPeriod) n (a % subPeriod) h ∙ no-longer (a % subPeriod) (q .coarse + added (q .fine) (a / subPeriod)) n h
 
--- What is laid and counted from clock i of a sub-period that is high for x clocks, where the position says both.
-pub within-laid : (q : Pair) (a i x n r : ℕ) (ls : List ℕ) → ls ≡ pulse i x n → r ≡ min (x - i) n → i ≡ a % subPeriod → x ≡ highIn q (a / subPeriod)
+-- a pulse goes by how far ahead its turn is, at which it goes low
+pub same-turn : (i x j y n : ℕ) → x - i ≡ y - j → pulse i x n ≡ pulse j y n
+unfolding pulse
+same-turn i x j y n e = rw e refl
+
+-- What is laid and counted within a sub-period, where the turn is as far ahead as the position and the pair say.
+pub within-laid : (q : Pair) (a i x n r : ℕ) (ls : List ℕ) → ls ≡ pulse i x n → r ≡ min (x - i) n → x - i ≡ highIn q (a / subPeriod) - a % subPeriod
     → a % subPeriod + n ≤ subPeriod → Lays q a n r ls
-within-laid q a i x n r ls is count clock high h =
-    let e : pulse i x n ≡ wave q a n = rw (clock, high) (sym (as-pulse q a n h)) in
+within-laid q a i x n r ls is count ahead h =
+    let e : pulse i x n ≡ wave q a n = same-turn i x (a % subPeriod) (highIn q (a / subPeriod)) n ahead ∙ sym (as-pulse q a n h) in
     (count ∙ sym (sum-pulse i x n) ∙ ap sumAll e, is ∙ e)
+
+-- the same of what is left, as `many` and those above it count it
+pub left-laid : (q : Pair) (a x left n r : ℕ) (ls : List ℕ) → ls ≡ pulse 127 left n → x ≡ highIn q (a / subPeriod) → left ≡ x + 127 - a % subPeriod → r ≡ min (x - a % subPeriod) n
+    → a % subPeriod + n ≤ subPeriod → Lays q a n r ls
+left-laid q a x left n r ls is high from count h =
+    let ahead : left - 127 ≡ x - a % subPeriod = omega arith in
+    within-laid q a 127 left n r ls is (count ∙ ap (λ (t : ℕ). min t n) (sym ahead)) (ahead ∙ ap (λ (y : ℕ). y - a % subPeriod) high) h
 
 -- a part written behind the first elements xs: what is lent, and what the whole is after it
 module _ (xs s : List ℕ) (i k : ℕ) (long : length xs ≡ i) where
@@ -159,13 +179,29 @@ module _ (xs s : List ℕ) (i k : ℕ) (long : length xs ≡ i) where
   pub put-behind : (ys : List ℕ) → take i (xs ++ s) ++ (ys ++ drop k (drop i (xs ++ s))) ≡ xs ++ (ys ++ drop k s)
   put-behind ys = rw (take-at xs s i long, drop-at xs s i long)
 
--- the levels by how far ahead the turn is, at which they go low
-pub from-turn : (i x t n : ℕ) → t ≡ x - i → pulse 0 t n ≡ pulse i x n
-unfolding pulse
-from-turn i x t n ahead = let e : t - 0 ≡ x - i = omega arith in rw e
+length-pulse : (i x n : ℕ) → length (pulse i x n) ≡ n
+length-pulse i x n = ap length (pulse-is i x n) ∙ length-tabulate n _
 
-pub turned : (t n : ℕ) → tabulate n (λ k. levelBelow k t) ≡ pulse 0 t n
-turned t n = sym (pulse-is 0 t n ∙ tabulate-same n _ _ (λ k h. ap (λ (p : ℕ). levelBelow p t) (zero-add k)))
+-- A clock more or none, laid behind the high ones.
+pub one-more : (c b i x n : ℕ) (ys : List ℕ) → c < n → b ≤ 1 → x - i ≡ c → ys ≡ pulse i x n → set ys c b ≡ pulse 0 (c + b) n
+one-more c b i x n ys inside most ahead laid =
+    let is : ys ≡ pulse 0 c n = laid ∙ same-turn i x 0 c n (omega arith) in
+    let size : length ys ≡ n = ap length is ∙ length-pulse 0 c n in
+    is-tabulate 0 n _ (set ys c b) (length-set ys c b ∙ size) (λ k h. go is size k h (ℕ-discrete k c)) ∙ sym (pulse-is 0 (c + b) n)
+  where
+    level-is : (k x v : ℕ) → (k < x → v ≡ 1) → (x ≤ k → v ≡ 0) → v ≡ levelBelow (0 + k) x
+    level-is k x v high low = rw (zero-add k) (by (decLt k x))
+      where
+        by : Dec (k < x) → v ≡ levelBelow k x
+        by (yes l) = rw (lt-ltb k x l) (high l)
+        by (no l) = let m : x ≤ k = omega arith in rw (le-ltb k x m) (low m)
+
+    old : ys ≡ pulse 0 c n → (k : ℕ) → k < n → getD ys k 0 ≡ levelBelow (0 + k) c
+    old is k h = ap (λ (l : List ℕ). getD l k 0) (is ∙ pulse-is 0 c n) ∙ getD-tabulate n _ k 0 h
+
+    go : ys ≡ pulse 0 c n → length ys ≡ n → (k : ℕ) → k < n → Dec (k ≡ c) → getD (set ys c b) k 0 ≡ levelBelow (0 + k) (c + b)
+    go is size k h (yes e) = rw e (getD-set-same ys c b 0 (omega arith) ∙ level-is c (c + b) b (λ l. omega arith) (λ l. omega arith))
+    go is size k h (no d) = getD-set-other ys c k b 0 d ∙ old is k h ∙ level-is k (c + b) (levelBelow (0 + k) c) (λ l. rw (zero-add k) (rw (lt-ltb k c (omega arith)) refl)) (λ l. rw (zero-add k) (rw (le-ltb k c (omega arith)) refl))
 
 -- l is l₀ with the first i levels of the wave from a position on over it, of which r are high
 pub record Begun (q : Pair) (a i r : ℕ) (l l₀ : List ℕ) : Type 0 where
@@ -198,6 +234,17 @@ module _ (q : Pair) (a : ℕ) where
       (omega (arith, g .high, sum-wave-add q a i (e - i)) ∙ ap (λ (n : ℕ). sumAll (wave q a n)) whole)
       (rw (g .is) (put-behind (wave q a i) (drop i l₀) i (e - i) long ys
       ∙ rw (drop-drop, whole, laid) (sym (append-assoc (wave q a i) (wave q (a + i) (e - i)) (drop e l₀)) ∙ ap (λ (w : List ℕ). w ++ drop e l₀) more)))
+
+  -- a whole sub-period is laid behind it
+  pub begun-whole : (i n r m s : ℕ) (l l₀ ys : List ℕ) → a + i ≡ subPeriod * n → Begun q a i r l l₀ → i + subPeriod ≤ length l₀
+      → (m ≡ highIn q n) × (ys ≡ pulse 0 (highIn q n) (length (take (i + subPeriod - i) (drop i l)))) → s ≡ r + m
+      → Begun q a (i + subPeriod) s (take i l ++ (ys ++ drop (i + subPeriod - i) (drop i l))) l₀
+  begun-whole i n r m s l l₀ ys at g room is sum =
+      let part : length (take (i + subPeriod - i) (drop i l)) ≡ subPeriod = length-take-le (i + subPeriod - i) (drop i l) (omega (arith, length-drop i l, g .size)) ∙ omega arith in
+      let here : n ≡ (a + i) / subPeriod = omega arith in
+      let begins : 0 ≡ (a + i) % subPeriod = omega arith in
+      let laid = within-laid q (a + i) 0 (highIn q n) _ m ys (is .1) (omega (arith, is .0, part)) (ap (λ (k : ℕ). highIn q k - 0) here ∙ ap (λ (k : ℕ). highIn q ((a + i) / subPeriod) - k) begins) (omega (arith, part)) in
+      begun-more i (i + subPeriod) r m s l l₀ ys g (omega arith) room laid sum
 
   pub begun-all : (i r : ℕ) (l l₀ : List ℕ) → length l₀ ≤ i → Begun q a i r l l₀ → Lays q a (length l₀) r l
   begun-all i r l l₀ h g =

@@ -11,8 +11,8 @@ pub const PERIOD: usize = 16384;
 
 const SUB_PERIOD: usize = 128;
 
-// From so many clocks of a sub-period on, `many` lays them, and below it `few`: as measured, the quickest.
-const MANY: usize = 8;
+// Fewer clocks than this are laid one by one.
+const FEW: usize = 8;
 
 // From so many clocks on, levels of two kinds of sub-periods are made ready before they are laid.
 const LONG: usize = 1024;
@@ -37,10 +37,7 @@ pub fn lay(levels: &mut [u8], pair: Pair, from: usize) -> usize
         return lay_within(levels, pair, from);
     }
     let n = least(levels.len(), PERIOD - from);
-    if n < LONG {
-        return lay_across(&mut levels[..n], pair, from);
-    }
-    lay_long(&mut levels[..n], pair, from)
+    lay_across(&mut levels[..n], pair, from)
 }
 
 // The same from the period's first clock on, where none of the tests is needed.
@@ -51,25 +48,8 @@ pub fn lay_from_start(levels: &mut [u8], pair: Pair) -> usize
     lay_on(&mut levels[..n], pair, 0)
 }
 
-// The levels from any clock on, a sub-period at a time.
+// The levels from any clock on, up to the end of its sub-period or further: those that are left of a sub-period under way, and then the others.
 fn lay_across(levels: &mut [u8], pair: Pair, from: usize) -> usize
-    requires { ⌜ from + length (now levels) ≤ period ⌝ }
-    ensures { λ r. ⌜ Lays pair from (length (now (levels .entry))) r (now (levels .exit)) ⌝ }
-{
-    let mut high = 0usize;
-    let mut i = 0usize;
-    while i < levels.len() {
-        let left = SUB_PERIOD - (from + i) % SUB_PERIOD;
-        let end = i + least(left, levels.len() - i);
-        high += lay_within(&mut levels[i..end], pair, from + i);
-        i = end;
-    }
-    high
-}
-
-// The same for many sub-periods: those that are left of one under way, and then the others. What begins with a sub-period has none left over, and goes
-// straight to the loop over whole ones.
-fn lay_long(levels: &mut [u8], pair: Pair, from: usize) -> usize
     requires { ⌜ (from + length (now levels) ≤ period) × (subPeriod ≤ from % subPeriod + length (now levels)) ⌝ }
     ensures { λ r. ⌜ Lays pair from (length (now (levels .entry))) r (now (levels .exit)) ⌝ }
 {
@@ -83,20 +63,31 @@ fn lay_long(levels: &mut [u8], pair: Pair, from: usize) -> usize
     first + others
 }
 
-// The levels from the first clock of a sub-period on: whole sub-periods, and what is left.
+// The levels from the first clock of a sub-period on.
 fn lay_on(levels: &mut [u8], pair: Pair, from: usize) -> usize
     requires { ⌜ (from + length (now levels) ≤ period) × (from % subPeriod ≡ 0) ⌝ }
     ensures { λ r. ⌜ Lays pair from (length (now (levels .entry))) r (now (levels .exit)) ⌝ }
 {
+    if levels.len() < LONG {
+        return lay_each(levels, pair, from);
+    }
+    lay_ready(levels, pair, from)
+}
+
+// Whole sub-periods, each made where it is laid, and what is left.
+fn lay_each(levels: &mut [u8], pair: Pair, from: usize) -> usize
+    requires { ⌜ (from + length (now levels) ≤ period) × (from % subPeriod ≡ 0) ⌝ }
+    ensures { λ r. ⌜ Lays pair from (length (now (levels .entry))) r (now (levels .exit)) ⌝ }
+{
+    let past = (from + levels.len()) / SUB_PERIOD;
+    let mut n = from / SUB_PERIOD;
     let mut high = 0usize;
     let mut i = 0usize;
-    while SUB_PERIOD <= levels.len() - i {
+    while n < past {
         let end = i + SUB_PERIOD;
-        let n = (from + i) / SUB_PERIOD;
-        // 0, but the compiler must not see it: `many` tells why
-        let clock = ((from + i) % SUB_PERIOD) as u8;
-        high += sub_period(&mut levels[i..end], pair, n, clock);
+        high += made(&mut levels[i..end], pair, n);
         i = end;
+        n += 1;
     }
     if levels.len() <= i {
         return high;
@@ -105,20 +96,58 @@ fn lay_on(levels: &mut [u8], pair: Pair, from: usize) -> usize
     high + rest
 }
 
-// The levels of sub-period n from a clock on: as many high clocks as the coarse half says, or one more. Each of the two kinds has a call of its own, so that
-// its levels are the same in every turn of the loop above, and the compiler makes both ready before the loop.
-fn sub_period(levels: &mut [u8], pair: Pair, n: usize, clock: u8) -> usize
-    requires { ⌜ (n < subPeriods) × (clock ≡ 0) × (length (now levels) ≡ subPeriod) ⌝ }
-    ensures { λ r. ⌜ (r ≡ highIn pair n) × (now (levels .exit) ≡ pulse clock (highIn pair n) (length (now (levels .entry)))) ⌝ }
+// The same for many sub-periods, which are of two kinds: the compiler makes both ready before the loop.
+fn lay_ready(levels: &mut [u8], pair: Pair, from: usize) -> usize
+    requires { ⌜ (from + length (now levels) ≤ period) × (from % subPeriod ≡ 0) ⌝ }
+    ensures { λ r. ⌜ Lays pair from (length (now (levels .entry))) r (now (levels .exit)) ⌝ }
+{
+    let past = (from + levels.len()) / SUB_PERIOD;
+    let mut n = from / SUB_PERIOD;
+    let mut high = 0usize;
+    let mut i = 0usize;
+    while n < past {
+        let end = i + SUB_PERIOD;
+        high += ready(&mut levels[i..end], pair, n);
+        i = end;
+        n += 1;
+    }
+    if levels.len() <= i {
+        return high;
+    }
+    let rest = lay_within(&mut levels[i..], pair, from + i);
+    high + rest
+}
+
+// The levels of the whole of sub-period n.
+fn made(levels: &mut [u8], pair: Pair, n: usize) -> usize
+    requires { ⌜ (n < subPeriods) × (length (now levels) ≡ subPeriod) ⌝ }
+    ensures { λ r. ⌜ (r ≡ highIn pair n) × (now (levels .exit) ≡ pulse 0 (highIn pair n) (length (now (levels .entry)))) ⌝ }
+{
+    let coarse = pair.coarse as usize;
+    if SUB_PERIOD <= coarse {
+        many(levels, 255);
+        return SUB_PERIOD;
+    }
+    let more = added(pair.fine, n);
+    many(levels, pair.coarse + 127);
+    levels[coarse] = more;
+    coarse + more as usize
+}
+
+// The same, with a call of its own for each of the two kinds, as many high clocks as the coarse half says or one more: its levels are the same in every turn
+// of the loop above.
+fn ready(levels: &mut [u8], pair: Pair, n: usize) -> usize
+    requires { ⌜ (n < subPeriods) × (length (now levels) ≡ subPeriod) ⌝ }
+    ensures { λ r. ⌜ (r ≡ highIn pair n) × (now (levels .exit) ≡ pulse 0 (highIn pair n) (length (now (levels .entry)))) ⌝ }
 {
     let coarse = pair.coarse as usize;
     if added(pair.fine, n) == 0 {
         let high = least(coarse, SUB_PERIOD);
-        many(levels, clock, high as u8);
+        many(levels, high as u8 + 127);
         return high;
     }
     let high = least(coarse + 1, SUB_PERIOD);
-    many(levels, clock, high as u8);
+    many(levels, high as u8 + 127);
     high
 }
 
@@ -129,51 +158,30 @@ fn lay_within(levels: &mut [u8], pair: Pair, from: usize) -> usize
 {
     let clock = from % SUB_PERIOD;
     let high = high_in(pair, from / SUB_PERIOD);
-    let turn = beyond(high as usize, clock);
-    let count = least(turn, levels.len());
-    if levels.len() < MANY {
-        few(levels, turn);
+    let left = high + 127 - clock as u8;
+    let count = least(beyond(high as usize, clock), levels.len());
+    if levels.len() < FEW {
+        many(levels, left);
         return count;
     }
     if levels.len() == SUB_PERIOD {
-        many(levels, clock as u8, high);
+        many(levels, left);
         return count;
     }
-    many(levels, clock as u8, high);
+    many(levels, left);
     count
 }
 
-// The levels from a clock of a sub-period on. Clocks are counted as bytes, so that the compiler compares many at a time. If it saw that the first one is 0
-// where a whole sub-period is laid, it would count in 64 bits, and the loop would take five times as long.
-fn many(levels: &mut [u8], clock: u8, high: u8)
-    requires { ⌜ clock + length (now levels) ≤ subPeriod ⌝ }
-    ensures { λ _. ⌜ now (levels .exit) ≡ pulse clock high (length (now (levels .entry))) ⌝ }
-{
-    let mut c = clock;
-    let mut i = 0usize;
-    while i < levels.len() {
-        levels[i] = level_below(c as usize, high as usize);
-        c += 1;
-        i += 1;
-    }
-}
-
-// A few levels: those before the turn are high.
-fn few(levels: &mut [u8], turn: usize)
-    ensures { λ _. ⌜ now (levels .exit) ≡ pulse 0 turn (length (now (levels .entry))) ⌝ }
+// Levels that are high while the number that is left, one less for each, is 128 or more: the compiler lays many of them at a time.
+fn many(levels: &mut [u8], left: u8)
+    requires { ⌜ length (now levels) ≤ left + 1 ⌝ }
+    ensures { λ _. ⌜ now (levels .exit) ≡ pulse 127 left (length (now (levels .entry))) ⌝ }
 {
     let mut i = 0usize;
     while i < levels.len() {
-        levels[i] = level_below(i, turn);
+        levels[i] = (left - i as u8) / 128;
         i += 1;
     }
-}
-
-// The level at a place: high before the turn, low from it on.
-fn level_below(place: usize, turn: usize) -> u8
-    ensures { λ r. ⌜ r ≡ levelBelow place turn ⌝ }
-{
-    if place < turn { 1 } else { 0 }
 }
 
 // How many clocks of sub-period n are high.

@@ -53,7 +53,7 @@ lay-across-requires c κs =
     let s = (let p : tie.Start = search in p .args .levels .now) in
     let n = (let p : tie.After-least = search in p .least .result) in
     let room : length (take n s) ≡ n = length-take-le n s (omega arith) in
-    omega (arith, room)
+    (omega (arith, room), omega (arith, room))
 
 same-length-2 : tie.Need-same-length-2
 same-length-2 c = search needs
@@ -66,36 +66,8 @@ returns-3 c =
     let reach : n .result ≡ min (length (a .levels .now)) (period - a .from) = omega (arith, n .ensures) in
     first-laid (a .pair) (a .from) (a .levels .now) (n .result) _ _ reach laid
 
-slice-relend-prefix-lay-long : tie.Need-slice-relend-prefix-lay-long
-slice-relend-prefix-lay-long c = search needs
-
-slice-aggregate-lay-long : tie.Need-slice-aggregate-lay-long
-slice-aggregate-lay-long c =
-    let s = (let p : tie.Start = search in p .args .levels .now) in
-    let n = (let p : tie.After-least = search in p .least .result) in
-    sym (length-take-le n s (omega arith))
-
-lay-long-requires : tie.Need-lay-long-requires
-lay-long-requires c κs =
-    let s = (let p : tie.Start = search in p .args .levels .now) in
-    let n = (let p : tie.After-least = search in p .least .result) in
-    let room : length (take n s) ≡ n = length-take-le n s (omega arith) in
-    (omega (arith, room), omega (arith, room))
-
-same-length-3 : tie.Need-same-length-3
-same-length-3 c = search needs
-
-returns-4 : tie.Need-returns-4
-returns-4 c =
-    let a = (let p : tie.Start = search in p .args) in
-    let n = (let p : tie.After-least = search in p .least) in
-    let laid = (let p : tie.After-lay-long = search in p .lay-long .ensures) in
-    let reach : n .result ≡ min (length (a .levels .now)) (period - a .from) = omega (arith, n .ensures) in
-    first-laid (a .pair) (a .from) (a .levels .now) (n .result) _ _ reach laid
-
 pub lay-spec : {M : Type 1} → statement M
 lay-spec =
     tie.close
     (tie.spec returns sub-left lay-within-requires same-length returns-2 sub-least least-requires slice-relend-prefix-lay-across
-    slice-aggregate-lay-across lay-across-requires same-length-2 returns-3 slice-relend-prefix-lay-long slice-aggregate-lay-long lay-long-requires
-    same-length-3 returns-4)
+    slice-aggregate-lay-across lay-across-requires same-length-2 returns-3)

@@ -1,79 +1,80 @@
--- `wave::lay_across` meets its contract: after i bytes they are the wave from the first position on, and the others as they came.
+-- `wave::lay_across` meets its contract: the levels of the sub-period under way, and then those of the others.
 -- Assumes nothing.
-use Prim.Native.Nat.{_+_, _-_, _≤_}
+use Prim.Native.Nat.{ℕ, _-_, _%_}
+use mathlib.Core.Path.{_≡_, sym}
 use native.Mathlib.Omega.{arith}
 use borrow.Author.Needs.{needs}
-use lib.ListN.{length}
-use Rattle.wave.proofs.Within.{lays-most, Begun, begun-none, begun-more, begun-all}
+use lib.ListN.{length, take}
+use lib.Seq.{length-take-le}
+use Rattle.wave.proofs.Within.{lays-most, begun-first, begun-rest}
 use Rattle.wave.proofs.lay_across.Statement.{statement}
 use Rattle.wave.proofs.lay_across.Tie as tie
 
-abbrev Inv-loop : tie.InvT-loop
-Inv-loop levels₀ pair from high₀ i₀ levels high i = Begun pair from i high levels levels₀
+-- the clocks left of the sub-period under way
+abbrev head : ℕ → ℕ
+head from = 128 - from % 128
 
-abbrev μ-loop : tie.MeasureT-loop
-μ-loop levels₀ pair from high₀ i₀ levels high i = length levels₀ - i
+lay-on-requires : tie.Need-lay-on-requires
+lay-on-requires c κs = search needs
 
-loop-holds : tie.Need-loop-holds Inv-loop μ-loop
-loop-holds c = begun-none _ _ _
+same-length : tie.Need-same-length
+same-length c = search needs
 
-add-left : tie.Need-add-left Inv-loop μ-loop
-add-left c = search needs
+returns : tie.Need-returns
+returns c = search
 
-sub-left : tie.Need-sub-left Inv-loop μ-loop
-sub-left c = search needs
+sub-head : tie.Need-sub-head
+sub-head c = search needs
 
-sub-least : tie.Need-sub-least Inv-loop μ-loop
-sub-least c = search needs
+slice-relend-prefix-lay-within : tie.Need-slice-relend-prefix-lay-within
+slice-relend-prefix-lay-within c = search needs
 
-least-requires : tie.Need-least-requires Inv-loop μ-loop
-least-requires c κs = search needs
+slice-aggregate-lay-within : tie.Need-slice-aggregate-lay-within
+slice-aggregate-lay-within c =
+    let a = (let p : tie.Start = search in p .args) in
+    sym (length-take-le (head (a .from)) (a .levels .now) (omega arith))
 
-add-end : tie.Need-add-end Inv-loop μ-loop
-add-end c = search needs
+lay-within-requires : tie.Need-lay-within-requires
+lay-within-requires c κs =
+    let a = (let p : tie.Start = search in p .args) in
+    let room : length (take (head (a .from)) (a .levels .now)) ≡ head (a .from) = length-take-le (head (a .from)) (a .levels .now) (omega arith) in
+    (omega arith, omega (arith, room))
 
-sub-lay-within : tie.Need-sub-lay-within Inv-loop μ-loop
-sub-lay-within c = search needs
+sub-lay-on : tie.Need-sub-lay-on
+sub-lay-on c = search needs
 
-part-lay-within-start : tie.Need-part-lay-within-start Inv-loop μ-loop
-part-lay-within-start c = search needs
+part-lay-on-start : tie.Need-part-lay-on-start
+part-lay-on-start c = search needs
 
-part-lay-within-end : tie.Need-part-lay-within-end Inv-loop μ-loop
-part-lay-within-end c = search needs
+part-lay-on-end : tie.Need-part-lay-on-end
+part-lay-on-end c = search needs
 
-add-lay-within : tie.Need-add-lay-within Inv-loop μ-loop
-add-lay-within c = search needs
+add-lay-on : tie.Need-add-lay-on
+add-lay-on c = search needs
 
-lay-within-requires : tie.Need-lay-within-requires Inv-loop μ-loop
-lay-within-requires c κs = search needs
+lay-on-requires-2 : tie.Need-lay-on-requires-2
+lay-on-requires-2 c κs = (omega arith, omega arith)
 
-add-high : tie.Need-add-high Inv-loop μ-loop
-add-high c =
-    let l = (let p : tie.At-loop Inv-loop μ-loop = search in p .loop) in
-    let laid = (let p : tie.After-lay-within Inv-loop μ-loop = search in p .lay-within .ensures) in
-    omega (arith, l .inv, lays-most _ _ _ _ _ laid)
+add-result : tie.Need-add-result
+add-result c =
+    let a = (let p : tie.Start = search in p .args) in
+    let first = (let p : tie.After-lay-within = search in p .lay-within .ensures) in
+    let others = (let p : tie.After-lay-on2 = search in p .lay-on2 .ensures) in
+    omega (arith, begun-first (a .pair) (a .from) (a .levels .now) (head (a .from)) _ _ (omega arith) first, lays-most _ _ _ _ _ others)
 
-loop-less : tie.Need-loop-less Inv-loop μ-loop
-loop-less c = search needs
+same-length-2 : tie.Need-same-length-2
+same-length-2 c = search needs
 
-loop-again : tie.Need-loop-again Inv-loop μ-loop
-loop-again c =
-    let a = (let p : tie.Start Inv-loop μ-loop = search in p .args) in
-    let l = (let p : tie.At-loop Inv-loop μ-loop = search in p .loop) in
-    let end = (let p : tie.After-least Inv-loop μ-loop = search in p .least .result) in
-    let laid = (let p : tie.After-lay-within Inv-loop μ-loop = search in p .lay-within .ensures) in
-    begun-more (a .pair) (a .from) (l .i) (l .i + end) _ _ _ (l .levels) _ _ (l .inv) (omega arith) (omega arith) laid (omega arith)
-
-same-length : tie.Need-same-length Inv-loop μ-loop
-same-length c = omega arith
-
-returns : tie.Need-returns Inv-loop μ-loop
-returns c =
-    let l = (let p : tie.At-loop Inv-loop μ-loop = search in p .loop) in
-    begun-all _ _ (l .i) _ (l .levels) _ (omega arith) (l .inv)
+returns-2 : tie.Need-returns-2
+returns-2 c =
+    let a = (let p : tie.Start = search in p .args) in
+    let first = (let p : tie.After-lay-within = search in p .lay-within .ensures) in
+    let others = (let p : tie.After-lay-on2 = search in p .lay-on2 .ensures) in
+    let begun = begun-first (a .pair) (a .from) (a .levels .now) (head (a .from)) _ _ (omega arith) first in
+    begun-rest (a .pair) (a .from) (head (a .from)) _ _ _ _ _ (a .levels .now) _ begun others (omega arith) (omega arith)
 
 pub lay-across-spec : {M : Type 1} → statement M
 lay-across-spec =
     tie.close
-    (tie.spec Inv-loop μ-loop loop-holds add-left sub-left sub-least least-requires add-end sub-lay-within part-lay-within-start part-lay-within-end
-    add-lay-within lay-within-requires add-high loop-less loop-again same-length returns)
+    (tie.spec lay-on-requires same-length returns sub-head slice-relend-prefix-lay-within slice-aggregate-lay-within lay-within-requires sub-lay-on
+    part-lay-on-start part-lay-on-end add-lay-on lay-on-requires-2 add-result same-length-2 returns-2)

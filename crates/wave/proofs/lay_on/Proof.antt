@@ -1,109 +1,26 @@
--- `wave::lay_on` meets its contract: after i bytes they are the wave from the first position on, and the others as they came.
+-- `wave::lay_on` meets its contract, which is that of either function.
 -- Assumes nothing.
-use Prim.Native.Nat.{_+_, _-_, _%_}
-use mathlib.Core.Path.{_≡_, ap}
-use native.Mathlib.Omega.{arith}
 use borrow.Author.Needs.{needs}
-use lib.ListN.{length}
-use Rattle.wave.specs.Steps.{highIn}
-use Rattle.wave.proofs.Within.{lays-most, within-laid, Begun, begun-none, begun-more, begun-all, begun-rest}
 use Rattle.wave.proofs.lay_on.Statement.{statement}
 use Rattle.wave.proofs.lay_on.Tie as tie
 
-abbrev Inv-loop : tie.InvT-loop
-Inv-loop levels₀ pair from high₀ i₀ levels high i = (i % 128 ≡ 0) × Begun pair from i high levels levels₀
+lay-each-requires : tie.Need-lay-each-requires
+lay-each-requires c κs = search needs
 
-abbrev μ-loop : tie.MeasureT-loop
-μ-loop levels₀ pair from high₀ i₀ levels high i = length levels₀ - i
+same-length : tie.Need-same-length
+same-length c = search needs
 
-loop-holds : tie.Need-loop-holds Inv-loop μ-loop
-loop-holds c = (omega arith, begun-none _ _ _)
+returns : tie.Need-returns
+returns c = (let p : tie.After-lay-each = search in p .lay-each .ensures)
 
-sub-loop : tie.Need-sub-loop Inv-loop μ-loop
-sub-loop c = search needs
+lay-ready-requires : tie.Need-lay-ready-requires
+lay-ready-requires c κs = search needs
 
-add-end : tie.Need-add-end Inv-loop μ-loop
-add-end c = search needs
-
-add-n : tie.Need-add-n Inv-loop μ-loop
-add-n c = search needs
-
-add-clock : tie.Need-add-clock Inv-loop μ-loop
-add-clock c = search needs
-
-cast-clock : tie.Need-cast-clock Inv-loop μ-loop
-cast-clock c = search needs
-
-sub-sub-period : tie.Need-sub-sub-period Inv-loop μ-loop
-sub-sub-period c = search needs
-
-part-sub-period-start : tie.Need-part-sub-period-start Inv-loop μ-loop
-part-sub-period-start c = search needs
-
-part-sub-period-end : tie.Need-part-sub-period-end Inv-loop μ-loop
-part-sub-period-end c = search needs
-
-sub-period-requires : tie.Need-sub-period-requires Inv-loop μ-loop
-sub-period-requires c κs = search needs
-
-add-high : tie.Need-add-high Inv-loop μ-loop
-add-high c =
-    let l = (let p : tie.At-loop Inv-loop μ-loop = search in p .loop) in
-    omega (arith, l .inv .1)
-
-loop-less : tie.Need-loop-less Inv-loop μ-loop
-loop-less c = search needs
-
-loop-again : tie.Need-loop-again Inv-loop μ-loop
-loop-again c =
-    let a = (let p : tie.Start Inv-loop μ-loop = search in p .args) in
-    let l = (let p : tie.At-loop Inv-loop μ-loop = search in p .loop) in
-    let laid = (let p : tie.After-sub-period Inv-loop μ-loop = search in p .sub-period) in
-    let is = within-laid (a .pair) (a .from + l .i) _ _ _ (laid .result) _ (laid .ensures .1) (omega arith) (omega arith) (ap (highIn (a .pair)) (omega arith)) (omega arith) in
-    (omega arith, begun-more (a .pair) (a .from) (l .i) (l .i + 128) _ _ _ (l .levels) _ _ (l .inv .1) (omega arith) (omega arith) is (omega arith))
-
-same-length : tie.Need-same-length Inv-loop μ-loop
-same-length c = omega arith
-
-returns : tie.Need-returns Inv-loop μ-loop
-returns c =
-    let l = (let p : tie.At-loop Inv-loop μ-loop = search in p .loop) in
-    begun-all _ _ (l .i) _ (l .levels) _ (omega arith) (l .inv .1)
-
-sub-lay-within : tie.Need-sub-lay-within Inv-loop μ-loop
-sub-lay-within c = search needs
-
-part-lay-within-start : tie.Need-part-lay-within-start Inv-loop μ-loop
-part-lay-within-start c = search needs
-
-part-lay-within-end : tie.Need-part-lay-within-end Inv-loop μ-loop
-part-lay-within-end c = search needs
-
-add-lay-within : tie.Need-add-lay-within Inv-loop μ-loop
-add-lay-within c = search needs
-
-lay-within-requires : tie.Need-lay-within-requires Inv-loop μ-loop
-lay-within-requires c κs = search needs
-
-add-result : tie.Need-add-result Inv-loop μ-loop
-add-result c =
-    let l = (let p : tie.At-loop Inv-loop μ-loop = search in p .loop) in
-    let laid = (let p : tie.After-lay-within Inv-loop μ-loop = search in p .lay-within .ensures) in
-    omega (arith, l .inv .1, lays-most _ _ _ _ _ laid)
-
-same-length-2 : tie.Need-same-length-2 Inv-loop μ-loop
+same-length-2 : tie.Need-same-length-2
 same-length-2 c = search needs
 
-returns-2 : tie.Need-returns-2 Inv-loop μ-loop
-returns-2 c =
-    let a = (let p : tie.Start Inv-loop μ-loop = search in p .args) in
-    let l = (let p : tie.At-loop Inv-loop μ-loop = search in p .loop) in
-    let laid = (let p : tie.After-lay-within Inv-loop μ-loop = search in p .lay-within) in
-    begun-rest (a .pair) (a .from) (l .i) _ _ _ _ (l .levels) _ _ (l .inv .1) (laid .ensures) (omega arith) (omega arith)
+returns-2 : tie.Need-returns-2
+returns-2 c = (let p : tie.After-lay-ready = search in p .lay-ready .ensures)
 
 pub lay-on-spec : {M : Type 1} → statement M
-lay-on-spec =
-    tie.close
-    (tie.spec Inv-loop μ-loop loop-holds sub-loop add-end add-n add-clock cast-clock sub-sub-period part-sub-period-start part-sub-period-end
-    sub-period-requires add-high loop-less loop-again same-length returns sub-lay-within part-lay-within-start part-lay-within-end add-lay-within
-    lay-within-requires add-result same-length-2 returns-2)
+lay-on-spec = tie.close (tie.spec lay-each-requires same-length returns lay-ready-requires same-length-2 returns-2)

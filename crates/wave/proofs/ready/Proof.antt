@@ -1,4 +1,4 @@
--- `wave::sub_period` meets its contract: it is high for as many clocks as the pair says.
+-- `wave::ready` meets its contract: it is high for as many clocks as the pair says.
 -- Assumes nothing.
 use Prim.Native.Nat.{ℕ}
 use mathlib.Core.Path.{_≡_, ap, _∙_}
@@ -7,8 +7,9 @@ use borrow.Author.Needs.{needs}
 use lib.ListN.{length}
 use Rattle.wave.specs.Steps.{highIn, pulse}
 use Rattle.wave.proofs.Fine.{added-le}
-use Rattle.wave.proofs.sub_period.Statement.{statement}
-use Rattle.wave.proofs.sub_period.Tie as tie
+use Rattle.wave.proofs.Within.{same-turn}
+use Rattle.wave.proofs.ready.Statement.{statement}
+use Rattle.wave.proofs.ready.Tie as tie
 
 cast-coarse : tie.Need-cast-coarse
 cast-coarse c = search needs
@@ -22,6 +23,9 @@ least-requires c κs = search needs
 cast-many : tie.Need-cast-many
 cast-many c = search needs
 
+add-many : tie.Need-add-many
+add-many c = search needs
+
 many-requires : tie.Need-many-requires
 many-requires c κs = search needs
 
@@ -34,7 +38,7 @@ returns c =
     let high = (let p : tie.After-least = search in p .least .result) in
     let laid = (let p : tie.After-many = search in p .many .ensures) in
     let clocks : high ≡ highIn (a .pair) (a .n) = omega arith in
-    (clocks, laid ∙ ap (λ (x : ℕ). pulse (a .clock) x (length (a .levels .now))) clocks)
+    (clocks, laid ∙ same-turn 127 _ 0 _ (length (a .levels .now)) (omega arith))
 
 add-least : tie.Need-add-least
 add-least c = search needs
@@ -44,6 +48,9 @@ least-requires-2 c κs = search needs
 
 cast-many-2 : tie.Need-cast-many-2
 cast-many-2 c = search needs
+
+add-many-2 : tie.Need-add-many-2
+add-many-2 c = search needs
 
 many-requires-2 : tie.Need-many-requires-2
 many-requires-2 c κs = search needs
@@ -57,10 +64,10 @@ returns-2 c =
     let high = (let p : tie.After-least2 = search in p .least2 .result) in
     let laid = (let p : tie.After-many2 = search in p .many2 .ensures) in
     let clocks : high ≡ highIn (a .pair) (a .n) = omega (arith, added-le (a .pair .fine) (a .n)) in
-    (clocks, laid ∙ ap (λ (x : ℕ). pulse (a .clock) x (length (a .levels .now))) clocks)
+    (clocks, laid ∙ same-turn 127 _ 0 _ (length (a .levels .now)) (omega arith))
 
-pub sub-period-spec : {M : Type 1} → statement M
-sub-period-spec =
+pub ready-spec : {M : Type 1} → statement M
+ready-spec =
     tie.close
-    (tie.spec cast-coarse added-requires least-requires cast-many many-requires same-length returns add-least least-requires-2 cast-many-2
+    (tie.spec cast-coarse added-requires least-requires cast-many add-many many-requires same-length returns add-least least-requires-2 cast-many-2 add-many-2
     many-requires-2 same-length-2 returns-2)
