@@ -145,6 +145,7 @@ static dirgeflint_dac *take_dac(void)
     dac->completed.fine = take_byte();
     dac->in_force.coarse = take_byte();
     dac->in_force.fine = take_byte();
+    take(&dac->high, sizeof dac->high);
     return dac;
 }
 
@@ -154,6 +155,7 @@ static void give_dac(const dirgeflint_dac *dac)
                           dac->in_force.coarse, dac->in_force.fine };
     give(&dac->position, sizeof dac->position);
     give(halves, sizeof halves);
+    give(&dac->high, sizeof dac->high);
 }
 
 static void dac_reset(void)

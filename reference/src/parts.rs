@@ -37,6 +37,8 @@ pub struct RunningRecord {
     pub held: Pair,
     pub completed: Pair,
     pub in_force: Pair,
+    /// The high clocks since the latest first clock of a period.
+    pub high: u16,
 }
 
 /// The record of the write port.

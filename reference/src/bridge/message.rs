@@ -69,7 +69,8 @@ impl Message {
     }
 
     pub fn dac(self, record: &RunningRecord) -> Self {
-        self.plain_words(&[record.position]).pair(record.held).pair(record.completed).pair(record.in_force)
+        let pairs = self.plain_words(&[record.position]).pair(record.held).pair(record.completed).pair(record.in_force);
+        pairs.plain_words(&[record.high])
     }
 
     pub fn port(self, port: &PortRecord) -> Self {
@@ -86,6 +87,10 @@ impl Message {
         self.take(1)[0]
     }
 
+    fn take_word(&mut self) -> u16 {
+        u16::from_le_bytes(self.take(2).try_into().expect("two bytes"))
+    }
+
     fn take_number(&mut self) -> u32 {
         u32::from_le_bytes(self.take(4).try_into().expect("four bytes"))
     }
@@ -99,13 +104,12 @@ impl Message {
     }
 
     pub fn take_dac(&mut self) -> RunningRecord {
-        let mut position = [0];
-        self.take_words(&mut position);
         RunningRecord {
-            position: position[0],
+            position: self.take_word(),
             held: self.take_pair(),
             completed: self.take_pair(),
             in_force: self.take_pair(),
+            high: self.take_word(),
         }
     }
 
@@ -122,7 +126,7 @@ impl Message {
 
     pub fn take_words(&mut self, words: &mut [u16]) {
         for word in words {
-            *word = u16::from_le_bytes(self.take(2).try_into().expect("two bytes"));
+            *word = self.take_word();
         }
     }
 }
@@ -138,6 +142,7 @@ mod tests {
             held: Pair { coarse: 1, fine: 2 },
             completed: Pair { coarse: 3, fine: 4 },
             in_force: Pair { coarse: 5, fine: 6 },
+            high: 0x5678,
         };
         let mut words = [0; 64];
         words[63] = 0x3FF;

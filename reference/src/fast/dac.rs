@@ -1,9 +1,10 @@
-//! The DAC by fills: two for each sub-period touched.
+//! The DAC by fills: two for each sub-period touched, the first of them counted.
 
 use super::Fast;
 use crate::parts::{Answer, Dac, Pair, RunningRecord};
 
 const PERIOD_MASK: u16 = 16383;
+const COUNT_MASK: u16 = 16383;
 
 fn reduced(pair: Pair) -> Pair {
     Pair { coarse: pair.coarse & 127, fine: pair.fine & 127 }
@@ -14,6 +15,7 @@ fn reduce(record: &mut RunningRecord) {
     record.held = reduced(record.held);
     record.completed = reduced(record.completed);
     record.in_force = reduced(record.in_force);
+    record.high &= COUNT_MASK;
 }
 
 /// The high clocks of a sub-period. A marker above bit 6 gives sub-period 0 a bit that no fine half has.
@@ -43,13 +45,14 @@ impl Dac for Fast {
             return Answer::refused(14, 0);
         }
         if clocks == 0 {
-            return Answer::accepted(0);
+            return Answer::accepted(u32::from(record.high & COUNT_MASK));
         }
         reduce(record);
         let mut rest = &mut levels[..clocks as usize];
         while !rest.is_empty() {
             if record.position == 0 {
                 record.in_force = record.completed;
+                record.high = 0;
             }
             let clock = usize::from(record.position & 127);
             let run = rest.len().min(128 - clock);
@@ -59,8 +62,9 @@ impl Dac for Fast {
             ones.fill(1);
             zeros.fill(0);
             rest = later;
+            record.high = (record.high + high as u16) & COUNT_MASK;
             record.position = (record.position + run as u16) & PERIOD_MASK;
         }
-        Answer::accepted(0)
+        Answer::accepted(u32::from(record.high))
     }
 }

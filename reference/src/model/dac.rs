@@ -6,6 +6,8 @@ use crate::parts::{Pair, RunningRecord};
 pub const SUB_PERIODS: u16 = 128;
 pub const SUB_PERIOD_CLOCKS: u16 = 128;
 pub const PERIOD_CLOCKS: u16 = SUB_PERIODS * SUB_PERIOD_CLOCKS;
+/// The count of high clocks is kept modulo this.
+const COUNT: u16 = 16384;
 
 fn kept_pair(pair: Pair) -> Pair {
     Pair { coarse: pair.coarse % 128, fine: pair.fine % 128 }
@@ -18,12 +20,13 @@ fn kept(record: RunningRecord) -> RunningRecord {
         held: kept_pair(record.held),
         completed: kept_pair(record.completed),
         in_force: kept_pair(record.in_force),
+        high: record.high % COUNT,
     }
 }
 
 pub fn reset(record: &mut RunningRecord) {
     let zero = Pair { coarse: 0, fine: 0 };
-    *record = RunningRecord { position: 0, held: zero, completed: zero, in_force: zero };
+    *record = RunningRecord { position: 0, held: zero, completed: zero, in_force: zero, high: 0 };
 }
 
 pub fn write_low(record: &mut RunningRecord, byte: u8) {
@@ -60,31 +63,38 @@ pub fn added_clock(fine: u8, sub_period: u16) -> u16 {
 fn play_clock(record: &mut RunningRecord) -> bool {
     if record.position == 0 {
         record.in_force = record.completed;
+        record.high = 0;
     }
     let sub_period = record.position / SUB_PERIOD_CLOCKS;
     let clock = record.position % SUB_PERIOD_CLOCKS;
     let high_clocks = u16::from(record.in_force.coarse) + added_clock(record.in_force.fine, sub_period);
+    let high = clock < high_clocks;
+    if high {
+        record.high = (record.high + 1) % COUNT;
+    }
     record.position = (record.position + 1) % PERIOD_CLOCKS;
-    clock < high_clocks
+    high
 }
 
-pub fn play(record: &mut RunningRecord, clocks: u32, levels: &mut [u8]) -> Result<(), Refusal> {
+/// Plays so many clocks, and tells the count of high clocks after them.
+pub fn play(record: &mut RunningRecord, clocks: u32, levels: &mut [u8]) -> Result<u16, Refusal> {
     if clocks > u32::from(PERIOD_CLOCKS) || clocks as usize > levels.len() {
         return Err(Refusal::plain(14));
     }
     if clocks == 0 {
-        return Ok(());
+        return Ok(kept(*record).high);
     }
     *record = kept(*record);
     for level in &mut levels[..clocks as usize] {
         *level = u8::from(play_clock(record));
     }
-    Ok(())
+    Ok(record.high)
 }
 
 #[cfg(test)]
 mod tests {
     use super::*;
+    use crate::random::Random;
 
     fn pair(coarse: u8, fine: u8) -> Pair {
         Pair { coarse, fine }
@@ -97,7 +107,7 @@ mod tests {
 
     fn played(record: &mut RunningRecord, clocks: usize) -> Vec<u8> {
         let mut levels = vec![7; clocks];
-        play(record, clocks as u32, &mut levels).unwrap();
+        assert_eq!(play(record, clocks as u32, &mut levels), Ok(record.high));
         levels
     }
 
@@ -223,8 +233,13 @@ mod tests {
 
     #[test]
     fn reset_clears_everything() {
-        let mut record =
-            RunningRecord { position: 0xFFFF, held: pair(1, 2), completed: pair(200, 4), in_force: pair(5, 255) };
+        let mut record = RunningRecord {
+            position: 0xFFFF,
+            held: pair(1, 2),
+            completed: pair(200, 4),
+            in_force: pair(5, 255),
+            high: 77,
+        };
         reset(&mut record);
         assert_eq!(record, RunningRecord::default());
     }
@@ -244,6 +259,7 @@ mod tests {
             held: pair(255, 255),
             completed: pair(255, 255),
             in_force: pair(255, 255),
+            high: 0xFFFF,
         };
         let before = record;
         let mut room = vec![9; 16385];
@@ -252,7 +268,8 @@ mod tests {
         assert_eq!(play(&mut record, 1, &mut []), Err(Refusal::plain(14)));
         assert_eq!(record, before);
         assert!(room.iter().all(|&byte| byte == 9));
-        assert_eq!(play(&mut record, 16384, &mut room), Ok(()));
+        // One clock of the old period, then all but one of the next, of which clock 127 alone is low.
+        assert_eq!(play(&mut record, 16384, &mut room), Ok(16382));
         assert_eq!(room[16384], 9);
     }
 
@@ -263,9 +280,10 @@ mod tests {
             held: pair(255, 128),
             completed: pair(200, 201),
             in_force: pair(129, 255),
+            high: 16390,
         };
         let before = record;
-        assert_eq!(play(&mut record, 0, &mut []), Ok(()));
+        assert_eq!(play(&mut record, 0, &mut []), Ok(6));
         assert_eq!(record, before);
     }
 
@@ -276,28 +294,162 @@ mod tests {
             held: pair(255, 128),
             completed: pair(200, 201),
             in_force: pair(129, 255),
+            high: 32768 + 9,
         };
+        let kept =
+            RunningRecord { position: 5, held: pair(127, 0), completed: pair(72, 73), in_force: pair(1, 127), high: 9 };
         let mut record = raw;
         write_low(&mut record, 3);
-        assert_eq!(
-            record,
-            RunningRecord { position: 5, held: pair(127, 3), completed: pair(72, 73), in_force: pair(1, 127) }
-        );
+        assert_eq!(record, RunningRecord { held: pair(127, 3), ..kept });
         let mut record = raw;
         write_high(&mut record, 3);
-        assert_eq!(record.completed, pair(3, 0));
-        assert_eq!(record.position, 5);
+        assert_eq!(record, RunningRecord { held: pair(3, 0), completed: pair(3, 0), ..kept });
         let mut record = raw;
-        played(&mut record, 1);
-        assert_eq!(
-            record,
-            RunningRecord { position: 6, held: pair(127, 0), completed: pair(72, 73), in_force: pair(1, 127) }
-        );
+        assert_eq!(played(&mut record, 1), [0]);
+        assert_eq!(record, RunningRecord { position: 6, ..kept });
     }
 
     #[test]
     fn a_made_up_position_of_a_whole_period_is_a_first_clock() {
         let mut record = RunningRecord { position: 16384, completed: pair(127, 0), ..RunningRecord::default() };
         assert_eq!(played(&mut record, 1), [1]);
+    }
+
+    #[test]
+    fn the_count_begins_with_the_first_clocks_own_level() {
+        let mut record = RunningRecord { completed: pair(2, 0), high: 77, ..RunningRecord::default() };
+        let counts: Vec<u16> = (0..4).map(|_| play(&mut record, 1, &mut [9]).unwrap()).collect();
+        assert_eq!(counts, [1, 2, 2, 2]);
+        let mut record = RunningRecord { high: 77, ..RunningRecord::default() };
+        assert_eq!(play(&mut record, 1, &mut [9]), Ok(0));
+    }
+
+    #[test]
+    fn the_count_stays_from_a_last_clock_to_the_next_first_one() {
+        let mut record = RunningRecord::default();
+        set(&mut record, 1, 3);
+        played(&mut record, 16384);
+        assert_eq!((record.position, record.high), (0, 131));
+        set(&mut record, 127, 127);
+        assert_eq!(record.high, 131);
+        assert_eq!(play(&mut record, 0, &mut []), Ok(131));
+        assert_eq!(play(&mut record, 1, &mut []), Err(Refusal::plain(14)));
+        assert_eq!(record.high, 131);
+        assert_eq!(play(&mut record, 1, &mut [9]), Ok(1));
+    }
+
+    #[test]
+    fn writes_leave_the_count_and_reset_clears_it() {
+        let mut record = RunningRecord::default();
+        set(&mut record, 100, 0);
+        played(&mut record, 60);
+        write_low(&mut record, 0);
+        assert_eq!(record.high, 60);
+        write_high(&mut record, 0);
+        assert_eq!(record.high, 60);
+        // The pair in force goes on: 40 more of this sub-period, and 100 of the next.
+        played(&mut record, 2 * 128 - 60);
+        assert_eq!(record.high, 200);
+        reset(&mut record);
+        assert_eq!(record.high, 0);
+        assert_eq!(play(&mut record, 0, &mut []), Ok(0));
+    }
+
+    #[test]
+    fn a_play_across_the_end_counts_the_new_period_alone() {
+        let mut record = RunningRecord::default();
+        set(&mut record, 127, 127);
+        played(&mut record, 16380);
+        assert_eq!(record.high, 16379);
+        set(&mut record, 2, 0);
+        assert_eq!(played(&mut record, 4 + 100), [&[1, 1, 1, 1, 1, 1][..], &[0; 98]].concat());
+        assert_eq!(record.high, 2);
+        // As long as a period, from its clock 100 to clock 99 of the next.
+        played(&mut record, 16384);
+        assert_eq!((record.position, record.high), (100, 2));
+    }
+
+    #[test]
+    fn the_count_after_a_whole_period_is_its_number() {
+        for (coarse, fine) in [(0, 0), (0, 1), (1, 3), (64, 64), (127, 0), (127, 127)] {
+            let number = 128 * u16::from(coarse) + u16::from(fine);
+            for size in [16384, 4099, 1000, 128, 1] {
+                let mut record = RunningRecord { high: 0xFFFF, ..RunningRecord::default() };
+                set(&mut record, coarse, fine);
+                let mut sum = 0;
+                for from in (0..16384).step_by(size) {
+                    sum += high(&played(&mut record, size.min(16384 - from)));
+                    assert_eq!(usize::from(record.high), sum);
+                }
+                assert_eq!((record.position, record.high), (0, number));
+            }
+        }
+    }
+
+    #[test]
+    fn the_count_is_the_same_however_the_plays_are_divided() {
+        let mut random = Random::new(11);
+        for _ in 0..40 {
+            let start = RunningRecord {
+                position: random.word(),
+                held: pair(random.byte(), random.byte()),
+                completed: pair(random.byte(), random.byte()),
+                in_force: pair(random.byte(), random.byte()),
+                high: random.word(),
+            };
+            let clocks = random.between(1, 16384);
+            let mut whole = start;
+            let levels = played(&mut whole, clocks);
+            let mut divided = start;
+            let mut parts = Vec::new();
+            while parts.len() < clocks {
+                let part = random.between(0, 300.min(clocks - parts.len()));
+                play(&mut divided, part as u32, &mut [0; 300]).unwrap();
+                parts.resize(parts.len() + part, 0);
+            }
+            assert_eq!(divided, whole);
+            // From a first clock on it is the sum of the levels; before one, what was there is counted as well.
+            let left = 16384 - usize::from(start.position) % 16384;
+            let due = match left {
+                16384 => high(&levels),
+                _ if clocks > left => high(&levels[left..]),
+                _ => usize::from(start.high) + high(&levels),
+            };
+            assert_eq!(usize::from(whole.high), due % 16384);
+        }
+    }
+
+    #[test]
+    fn a_made_up_count_is_taken_and_kept_modulo_16384() {
+        for (raw, kept) in [(16384, 0), (16390, 6), (65535, 16383), (16383, 16383), (77, 77)] {
+            // In a sub-period whose first 100 clocks are high.
+            let start = RunningRecord { position: 128, in_force: pair(100, 0), high: raw, ..RunningRecord::default() };
+            let mut record = start;
+            assert_eq!(play(&mut record, 0, &mut [9]), Ok(kept));
+            assert_eq!(record, start);
+            assert_eq!(play(&mut record, 2, &mut [9]), Err(Refusal::plain(14)));
+            assert_eq!(play(&mut record, 16385, &mut [9; 16385]), Err(Refusal::plain(14)));
+            assert_eq!(record, start);
+            assert_eq!(play(&mut record, 1, &mut [9]), Ok((kept + 1) % 16384));
+            let mut record = start;
+            assert_eq!(play(&mut record, 128, &mut [9; 128]), Ok((kept + 100) % 16384));
+            for write in [write_low, write_high] {
+                let mut record = start;
+                write(&mut record, 5);
+                assert_eq!((record.position, record.high), (128, kept));
+            }
+        }
+    }
+
+    #[test]
+    fn a_made_up_count_at_position_0_stays_until_the_first_clock() {
+        for position in [0, 16384, 49152] {
+            let mut record = RunningRecord { position, high: 77, ..RunningRecord::default() };
+            assert_eq!(play(&mut record, 0, &mut []), Ok(77));
+            set(&mut record, 5, 0);
+            assert_eq!((record.position, record.high), (0, 77));
+            assert_eq!(play(&mut record, 0, &mut []), Ok(77));
+            assert_eq!(play(&mut record, 7, &mut [9; 7]), Ok(5));
+        }
     }
 }

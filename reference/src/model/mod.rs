@@ -56,7 +56,7 @@ impl Dac for Model {
     }
 
     fn play(&self, record: &mut RunningRecord, clocks: u32, levels: &mut [u8]) -> Answer {
-        answer(dac::play(record, clocks, levels).map(|()| 0))
+        answer(dac::play(record, clocks, levels).map(u32::from))
     }
 }
 
@@ -107,12 +107,15 @@ impl Pack for Model {
 #[cfg(test)]
 mod tests {
     use super::*;
-    use crate::parts::Settings;
+    use crate::parts::{Pair, Settings};
 
     #[test]
     fn accepted_calls_answer_a_level_a_count_or_0() {
         assert_eq!(Model.level(0, 1, 0), Answer::accepted(1));
-        assert_eq!(Model.play(&mut RunningRecord::default(), 1, &mut [9]), Answer::accepted(0));
+        let completed = Pair { coarse: 1, fine: 0 };
+        let mut record = RunningRecord { completed, high: 9, ..RunningRecord::default() };
+        assert_eq!(Model.play(&mut record, 0, &mut []), Answer::accepted(9));
+        assert_eq!(Model.play(&mut record, 1, &mut [9]), Answer::accepted(1));
         let font = vec![0; image::FONT_ROWS];
         let mut text = vec![0; hex::WRITTEN_TEXT];
         assert_eq!(Model.write(&font, &mut text), Answer::accepted(0));
@@ -128,6 +131,8 @@ mod tests {
     #[test]
     fn refusals_carry_their_number_and_place() {
         assert_eq!(Model.level(8, 0, 0), Answer::refused(15, 0));
+        let mut record = RunningRecord { high: 9, ..RunningRecord::default() };
+        assert_eq!(Model.play(&mut record, 1, &mut []), Answer::refused(14, 0));
         let text = b":0000000000\n:0000000001\n";
         assert_eq!(Model.read(text, &mut [0; 8192]), Answer::refused(8, 12));
     }

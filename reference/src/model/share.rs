@@ -17,8 +17,10 @@ enum Write {
 pub struct Watcher {
     /// The writes since the last reset, in order.
     writes: Vec<Write>,
-    /// The levels of the period under way.
+    /// The levels of the period under way; a whole one stays until the next begins.
     period: Vec<u8>,
+    /// Their sum.
+    high: u64,
     /// The number due in the period under way.
     due: u64,
     completed_periods: u64,
@@ -28,6 +30,7 @@ impl Watcher {
     pub fn reset(&mut self) {
         self.writes.clear();
         self.period.clear();
+        self.high = 0;
     }
 
     pub fn write_low(&mut self, byte: u8) {
@@ -54,17 +57,24 @@ impl Watcher {
     /// Takes note of the levels of an accepted play.
     pub fn played(&mut self, levels: &[u8]) -> Result<(), String> {
         for &level in levels {
-            if self.period.is_empty() {
+            if self.period.is_empty() || self.period.len() == PERIOD {
+                self.period.clear();
+                self.high = 0;
                 self.due = self.number_due();
             }
             self.period.push(level);
+            self.high += u64::from(level);
             if self.period.len() == PERIOD {
                 check(&self.period, self.due)?;
-                self.period.clear();
                 self.completed_periods += 1;
             }
         }
         Ok(())
+    }
+
+    /// The high clocks of the period under way, or of the latest while the next has not begun.
+    pub fn high(&self) -> u64 {
+        self.high
     }
 
     pub fn completed_periods(&self) -> u64 {
@@ -130,6 +140,7 @@ mod tests {
                     watcher.played(&room[..clocks]).unwrap();
                 }
             }
+            assert_eq!(u64::from(record.high), watcher.high());
         }
         watcher.completed_periods()
     }
@@ -174,6 +185,27 @@ mod tests {
         // The right number, but all of it in one place.
         period[..200].fill(1);
         assert!(check(&period, 200).is_err());
+    }
+
+    #[test]
+    fn the_high_clocks_are_those_of_one_period() {
+        let mut watcher = Watcher::default();
+        assert_eq!(watcher.high(), 0);
+        watcher.write_low(1);
+        watcher.write_high(0);
+        let mut period = vec![0; PERIOD];
+        period[64 * SUB_PERIOD] = 1;
+        watcher.played(&period[..8192]).unwrap();
+        assert_eq!(watcher.high(), 0);
+        watcher.played(&period[8192..]).unwrap();
+        assert_eq!(watcher.high(), 1);
+        watcher.write_high(1);
+        watcher.played(&[]).unwrap();
+        assert_eq!(watcher.high(), 1);
+        watcher.played(&[1, 1, 0]).unwrap();
+        assert_eq!(watcher.high(), 2);
+        watcher.reset();
+        assert_eq!(watcher.high(), 0);
     }
 
     #[test]
