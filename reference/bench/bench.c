@@ -141,7 +141,7 @@ static void pulse(const face *f, int size)
 static void dac(const face *f, int size)
 {
     static uint8_t levels[PERIOD];
-    static dirgeflint_dac record = { 0, { 37, 91 }, { 37, 91 }, { 37, 91 } };
+    static dirgeflint_dac record = { 0, { 37, 91 }, { 37, 91 }, { 37, 91 }, 0 };
     for (int left = PERIOD; left > 0; left -= size) {
         int now = left < size ? left : size;
         f->dac_play(&record, (uint32_t)now, levels, (size_t)now);
@@ -374,7 +374,7 @@ static const shape shapes[] = {
 static void one_play(const face *f, int size)
 {
     static uint8_t levels[PERIOD];
-    static dirgeflint_dac record = { 0, { 37, 91 }, { 37, 91 }, { 37, 91 } };
+    static dirgeflint_dac record = { 0, { 37, 91 }, { 37, 91 }, { 37, 91 }, 0 };
     f->dac_play(&record, (uint32_t)size, levels, sizeof levels);
     seen = levels[0];
 }

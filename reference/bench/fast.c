@@ -30,8 +30,8 @@ static dirgeflint_answer fast_answer(uint32_t number, uint32_t place, uint32_t v
 }
 
 /*
- * The running record as one word: the position in bits 0 to 15, then held, completed and in force, 16 bits each, the
- * coarse half below the fine one.
+ * The running record as a word and the count of high clocks. The word has the position in bits 0 to 15, then held,
+ * completed and in force, 16 bits each, the coarse half below the fine one.
  */
 static const uint64_t fast_kept = 0x7F7F7F7F7F7F3FFFu;
 
@@ -42,25 +42,26 @@ static uint64_t fast_load(const dirgeflint_dac *dac)
     return all & fast_kept;
 }
 
-static void fast_store(dirgeflint_dac *dac, uint64_t all)
+static void fast_store(dirgeflint_dac *dac, uint64_t all, uint32_t high)
 {
     memcpy(dac, &all, sizeof all);
+    dac->high = high & 16383;
 }
 
 static void fast_dac_reset(dirgeflint_dac *dac)
 {
-    fast_store(dac, 0);
+    fast_store(dac, 0, 0);
 }
 
 static void fast_dac_write_low(dirgeflint_dac *dac, uint8_t byte)
 {
-    fast_store(dac, (fast_load(dac) & ~(uint64_t)0xFF000000) | (uint64_t)(byte & 127) << 24);
+    fast_store(dac, (fast_load(dac) & ~(uint64_t)0xFF000000) | (uint64_t)(byte & 127) << 24, dac->high);
 }
 
 static void fast_dac_write_high(dirgeflint_dac *dac, uint8_t byte)
 {
     uint64_t all = (fast_load(dac) & ~(uint64_t)0xFF0000) | (uint64_t)(byte & 127) << 16;
-    fast_store(dac, (all & ~(uint64_t)0xFFFF00000000) | (all << 16 & (uint64_t)0xFFFF00000000));
+    fast_store(dac, (all & ~(uint64_t)0xFFFF00000000) | (all << 16 & (uint64_t)0xFFFF00000000), dac->high);
 }
 
 /* One more for a sub-period that the fine half picks: its lowest set bit, turned round, is the fine bit that serves it. */
@@ -70,38 +71,49 @@ static uint32_t fast_high(uint64_t all, uint32_t sub)
     return coarse + (fine * (sub & -sub) >> 6 & 1);
 }
 
+static uint32_t fast_least(uint32_t a, uint32_t b)
+{
+    return a < b ? a : b;
+}
+
 static dirgeflint_answer fast_dac_play(dirgeflint_dac *dac, uint32_t clocks, uint8_t *levels, size_t levels_length)
 {
     if (clocks > 16384 || clocks > levels_length)
         return fast_answer(14, 0, 0);
+    uint32_t high = dac->high;
     if (clocks == 0)
-        return fast_answer(0, 0, 0);
+        return fast_answer(0, 0, high & 16383);
     uint64_t all = fast_load(dac);
     uint32_t position = all & 16383;
     while (clocks != 0) {
-        if (position == 0)
+        if (position == 0) {
             all = (all & 0x0000FFFFFFFFFFFFu) | all << 16 >> 48 << 48;
+            high = 0;
+        }
         uint32_t clock = position & 127;
         /* Bit 7 of a count from here down is the level: it is set as long as the clock is below the number of high ones. */
         if (clock == 0)
             for (; clocks >= 128 && position < 16384; clocks -= 128, position += 128, levels += 128) {
-                uint8_t count = (uint8_t)(127 + fast_high(all, position >> 7));
+                uint32_t now = fast_high(all, position >> 7);
+                uint8_t count = (uint8_t)(127 + now);
                 for (int i = 0; i < 128; i++)
                     levels[i] = count-- >> 7;
+                high += now;
             }
         if (position < 16384) {
-            uint32_t run = clocks < 128 - clock ? clocks : 128 - clock;
-            uint8_t count = (uint8_t)(127 + fast_high(all, position >> 7) - clock);
+            uint32_t run = fast_least(clocks, 128 - clock), now = fast_high(all, position >> 7);
+            uint8_t count = (uint8_t)(127 + now - clock);
             for (uint32_t i = 0; i < run; i++)
                 levels[i] = count-- >> 7;
+            high += fast_least(now, clock + run) - fast_least(now, clock);
             levels += run;
             clocks -= run;
             position += run;
         }
         position &= 16383;
     }
-    fast_store(dac, (all & ~(uint64_t)0xFFFF) | position);
-    return fast_answer(0, 0, 0);
+    fast_store(dac, (all & ~(uint64_t)0xFFFF) | position, high);
+    return fast_answer(0, 0, high & 16383);
 }
 
 static void fast_port_reset(dirgeflint_port *port)
