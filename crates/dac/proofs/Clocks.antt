@@ -54,10 +54,10 @@ unfolding soFar
 later-so-far d h = rw (ne-eqb (d .position) 0 (λ e. omega arith))
 
 -- the high clocks that the next m clocks make, in the same period, and the record after them
-counted : Dac → ℕ → ℕ
+unfoldable pub counted : Dac → ℕ → ℕ
 counted k m = keptCount (soFar k + sumAll (wave (playing k) (k .position) m))
 
-moved : Dac → ℕ → Dac
+unfoldable pub moved : Dac → ℕ → Dac
 moved d m = dacOf ((kept d .position + m) % period) (kept d .held) (kept d .completed) (playing (kept d)) (counted (kept d) m)
 
 -- the first of them, and the others
@@ -101,7 +101,7 @@ one-moved d =
     let e : keptCount (soFar (kept d) + nextLevel (kept d)) ≡ counted (kept d) 1 = omega (arith, count-next (kept d) 0) in
     ap (λ (n : ℕ). dacOf ((kept d .position + 1) % period) (kept d .held) (kept d .completed) (playing (kept d)) n) e
 
-levels-within : (m : ℕ) (d : Dac) → kept d .position + m ≤ period → levelsOf m d ≡ wave (playing (kept d)) (kept d .position) m
+pub levels-within : (m : ℕ) (d : Dac) → kept d .position + m ≤ period → levelsOf m d ≡ wave (playing (kept d)) (kept d .position) m
 unfolding levelsOf wave
 levels-within zero d h = refl
 levels-within (suc zero) d h = ap (λ (l : ℕ). l ∷ []) (level-next (kept d))
@@ -117,7 +117,7 @@ after-moved (suc n) d h =
     let more : kept d .position + 1 < period = omega arith in
     after-moved n (clocked (kept d)) (omega (arith, position-on d more)) ∙ moved-on d more (suc n)
 
-after-within : (m : ℕ) (d : Dac) → 0 < m → kept d .position + m ≤ period
+pub after-within : (m : ℕ) (d : Dac) → 0 < m → kept d .position + m ≤ period
     → afterClocks m d ≡ moved d m
 after-within zero d some h = absurd (omega arith)
 after-within (suc m) d some h = after-moved m d h

@@ -1,4 +1,4 @@
--- A play: the clocks asked for, the bytes lent, and number 14 of document 01's table.
+-- A play: the clocks asked for, the bytes lent, number 14 of document 01's table, and the count that M-104 has a play answer.
 -- Assumes nothing.
 use Prim.Native.Nat.{ℕ}
 use mathlib.Core.Bool.{Bool, _||_}
@@ -17,8 +17,8 @@ use Rattle.dac.specs.Running.{keptCount, afterClocks, levelsOf}
 abbrev pub tooMany : ℕ → ℕ → Bool
 tooMany clocks room = ltb period clocks || ltb room clocks
 
--- What a play answers: the high clocks since the latest first clock of a period, as the record counts them after it. One of no clocks answers them
--- too, though it leaves a record that the host made up as it came.
+-- What a play answers: the kept form of the count that the record has after it. A play of no clocks leaves any record as it came, and so may leave a
+-- count that is not kept; it answers the kept form all the same.
 unfoldable pub answerOf : Dac → ℕ → ℕ → Said
 answerOf d clocks room = pick (tooMany clocks room) (refused 14 0) (accepted (keptCount (afterClocks clocks d .high)))
 
@@ -33,7 +33,7 @@ levelsPlayed d clocks room = pick (tooMany clocks room) [] (levelsOf clocks d)
 unfoldable pub lentAfter : Dac → ℕ → List ℕ → List ℕ
 lentAfter d clocks lent = over (levelsPlayed d clocks (length lent)) lent
 
--- document 01's number, place and value for each answer
+-- number, place and value for each answer
 abbrev pub said : Played → Said
 said (All high) = accepted high
 said TooMany = refused 14 0

@@ -1,5 +1,6 @@
--- The running record: what a reset, a write to either register and a clock make of it, and the level of each clock; document 01, 'Pulses'.
--- A host may hand over any record. Every step but a play of no clocks uses its kept form, and leaves a kept record.
+-- The running record: what a reset, a write to either register and a clock make of it, and the level of each clock; document 01, 'Pulses', and M-104.
+-- A host may hand over any record. Every step uses its kept form and leaves a kept record, but a play of no clocks and a refused one, which leave it as
+-- it came.
 -- Assumes nothing.
 use Prim.Native.Nat.{ℕ, zero, suc, _+_, _%_}
 use mathlib.Core.List.{List, [], _∷_}
@@ -19,15 +20,15 @@ keptHalf byte = byte % halves
 abbrev pub keptPair : Pair → Pair
 keptPair q = pair (keptHalf (q .coarse)) (keptHalf (q .fine))
 
--- how many counts of high clocks there are: no pair of kept halves asks for more than 16,383 in a period
+-- how many counts of high clocks there are: a pair asks for at most 128 * 127 + 127 of them in a period
 abbrev pub counts : ℕ
 counts = 16384
 
 abbrev pub keptCount : ℕ → ℕ
 keptCount n = n % counts
 
--- The record by its parts: the position, the halves held, the pair completed last, the pair in force, and the high clocks since the latest first
--- clock of a period (M-104).
+-- The record by its parts: the position, the halves held, the pair completed last, the pair in force, and how many clocks were high from the last
+-- first clock of a period on.
 abbrev pub dacOf : ℕ → Pair → Pair → Pair → ℕ → Dac
 dacOf p h c f n = record { position = p; held = h; completed = c; in_force = f; high = n }
 
@@ -58,7 +59,7 @@ playing k = pick (eqb (k .position) 0) (k .completed) (k .in_force)
 unfoldable pub nextLevel : Dac → ℕ
 nextLevel k = level (playing k) (k .position)
 
--- The high clocks that its period has had before it: a period's first clock starts the count anew.
+-- The count to which it adds its level: a period's first clock starts it anew.
 unfoldable pub soFar : Dac → ℕ
 soFar k = pick (eqb (k .position) 0) 0 (k .high)
 

@@ -24,12 +24,12 @@ pub struct Dac {
     // The latest completed pair.
     pub completed: Pair,
     pub in_force: Pair,
-    // The high clocks since the latest first clock of a period.
+    // How many clocks were high from the last first clock of a period on.
     pub high: u16,
 }
 
 pub enum Played {
-    // The high clocks since the latest first clock of a period, after the play.
+    // The record's count of high clocks after the play.
     All(u32),
     // More clocks than a period has, or than bytes are lent.
     TooMany,
@@ -76,8 +76,8 @@ pub fn write_high(dac: Dac, byte: u8) -> Dac
     after
 }
 
-// Plays so many clocks: writes one byte for each, 1 where it is high and 0 where it is low, to the first bytes lent, and answers how many clocks of the
-// period have been high so far.
+// Plays so many clocks: writes one byte for each, 1 where it is high and 0 where it is low, to the first bytes lent, and answers the
+// record's count of high clocks after them.
 pub fn play(dac: Dac, clocks: u32, levels: &mut [u8]) -> Outcome
     ensures { λ r. ⌜ (said (r .answer) ≡ answerOf dac clocks (length (now (levels .entry)))) × (r .after ≡ afterPlay dac clocks (length (now (levels .entry)))) × (now (levels .exit) ≡ lentAfter dac clocks (now (levels .entry))) ⌝ }
 {
@@ -140,7 +140,7 @@ fn kept(dac: Dac) -> Dac
     dac_of(position, held, completed, in_force, high)
 }
 
-// The one place where a record is made: a field more is one argument more here.
+// The one place where a record is made from its parts.
 fn dac_of(position: u16, held: Pair, completed: Pair, in_force: Pair, high: u16) -> Dac
     ensures { λ r. ⌜ r ≡ dacOf position held completed in_force high ⌝ }
 {
@@ -174,7 +174,7 @@ fn playing(dac: Dac) -> Pair
     in_force
 }
 
-// The high clocks that the period of a kept record's next clock has had before it: a first clock has none before it.
+// The count to which the next clock of a kept record adds its level: a first clock starts it anew.
 fn so_far(dac: Dac) -> u16
     ensures { λ r. ⌜ r ≡ soFar dac ⌝ }
 {

@@ -10,16 +10,18 @@ use lib.Dec.{ltb}
 use lib.ListN.{length, take, drop, length-append}
 use lib.Seq.{take-at, drop-at, drop-length, drop-append-add}
 use borrow.Author.Tests.{ne-eqb, ltb-false}
+use Rattle.laws.specs.Pick.{pick}
+use Rattle.laws.specs.Said.{accepted, refused}
 use Rattle.wave.specs.declared.Pair.{Pair}
 use Rattle.dac.specs.declared.Dac.{Dac}
 use Rattle.wave.specs.Wave.{period, subPeriods, pair, bit, added, wave}
 use Rattle.dac.specs.Running.{halves, keptHalf, keptPair, counts, keptCount, dacOf, kept, nextLevel, soFar, clocked, afterClocks, levelsOf}
-use Rattle.dac.specs.Play.{tooMany, afterPlay, levelsPlayed, lentAfter}
+use Rattle.dac.specs.Play.{tooMany, answerOf, afterPlay, levelsPlayed, lentAfter}
 use Rattle.periods.specs.Theorems.{Serves, BothHalves, Joined, Found, Keeps}
 use Rattle.laws.proofs.Lists.{tabulate-same}
 use Rattle.wave.proofs.Within.{wave-is}
 use Rattle.dac.proofs.Clocks.{pair-kept, keptPair-kept, playing-kept, length-levels, levels-split, after-split}
-use Rattle.dac.proofs.Answers.{may, refused-play, accepted-play}
+use Rattle.dac.proofs.Answers.{may, refused-play, accepted-play, accepted-count}
 use Rattle.periods.proofs.Count.{one-pair}
 
 pub serves : Serves
@@ -68,6 +70,7 @@ joined d a b s t e accepted =
     let empty : drop a s ≡ [] = rw (← e) (drop-length s) in
     let behind : drop (a + b) (s ++ t) ≡ drop b t = rw (← e) (drop-append-add s t b) in (
       rw first (sym (accepted-play (afterClocks a d) b t then-may .0) ∙ sym (after-split a b d) ∙ accepted-play d (a + b) (s ++ t) accepted .0),
+      rw first (sym (accepted-count (afterClocks a d) b t then-may _ _ refl refl) ∙ accepted-count d (a + b) (s ++ t) accepted _ _ (sym (after-split a b d)) refl),
       rw (first, lent-played d a s first-may, lent-played (afterClocks a d) b t then-may, lent-played d (a + b) (s ++ t) accepted, empty, behind, append-nil (levelsOf a d), levels-split a b d)
           (sym (append-assoc (levelsOf a d) (levelsOf b (afterClocks a d)) (drop b t))),
     )
@@ -112,8 +115,17 @@ unfolding afterClocks
 stays-kept zero d = clocked-kept d
 stays-kept (suc c) d = stays-kept c (clocked (kept d))
 
+-- what a play answers
+answer-kept : (d : Dac) (room c : ℕ) → answerOf (kept d) c room ≡ answerOf d c room
+unfolding answerOf afterClocks
+answer-kept d room c = ap (λ (n : ℕ). pick (tooMany c room) (refused 14 0) (accepted n)) (same c)
+  where
+    same : (c : ℕ) → keptCount (afterClocks c (kept d) .high) ≡ keptCount (afterClocks c d .high)
+    same zero = omega arith
+    same (suc c) = ap (λ (x : Dac). keptCount (x .high)) (after-kept d c)
+
 pub keeps : Keeps
-keeps d byte c =
+keeps d byte c room =
     let low = pair-kept (pair (keptHalf (d .held .coarse)) (keptHalf byte)) (omega arith) (omega arith) in
     let made = pair-kept (pair (keptHalf byte) (keptHalf (d .held .fine))) (omega arith) (omega arith) in
     let done = keptPair-kept (d .completed) in
@@ -127,4 +139,5 @@ keeps d byte c =
       levels-kept d c,
       after-kept d c,
       stays-kept c d,
+      answer-kept d room c,
     )

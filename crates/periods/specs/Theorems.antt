@@ -10,7 +10,7 @@ use Rattle.wave.specs.declared.Pair.{Pair}
 use Rattle.dac.specs.declared.Dac.{Dac}
 use Rattle.wave.specs.Wave.{period, subPeriods, bit, added, level, wave}
 use Rattle.dac.specs.Running.{keptPair, kept, afterReset, lowWritten, highWritten, afterClocks, levelsOf}
-use Rattle.dac.specs.Play.{tooMany, afterPlay, levelsPlayed, lentAfter}
+use Rattle.dac.specs.Play.{tooMany, answerOf, afterPlay, levelsPlayed, lentAfter}
 use Rattle.periods.specs.Demand.{Event, play, run, Moment, clock, history, lastPair, since, Period, heard}
 
 -- Fine bit b serves exactly the sub-periods from 1 to 127 that end in 6 - b zero bits; sub-period 0 gets nothing.
@@ -23,11 +23,13 @@ abbrev pub BothHalves : Type 0
 BothHalves =
     (p q : Pair) → keptPair p ≡ p → keptPair q ≡ q → ((a : ℕ) → a < period → level p a ≡ level q a) → (p .coarse ≡ q .coarse) × (p .fine ≡ q .fine)
 
--- Playing a clocks and then b gives what one play of a + b gives, where that many may be played: the record, and the bytes lent, first s and then t.
+-- Playing a clocks and then b gives what one play of a + b gives, where that many may be played: the record, the answer, and the bytes lent, first s and
+-- then t.
 abbrev pub Joined : Type 0
 Joined =
     (d : Dac) (a b : ℕ) (s t : List ℕ) → length s ≡ a → tooMany (a + b) (length (s ++ t)) ≡ false
     → (afterPlay (afterPlay d a (length s)) b (length t) ≡ afterPlay d (a + b) (length (s ++ t)))
+    × (answerOf (afterPlay d a (length s)) b (length t) ≡ answerOf d (a + b) (length (s ++ t)))
     × (lentAfter d a s ++ lentAfter (afterPlay d a (length s)) b t ≡ lentAfter d (a + b) (s ++ t))
 
 -- The levels that a play puts out are what the host finds: an accepted one has left them in the first bytes lent, and the others as they came; a
@@ -38,13 +40,14 @@ Found =
     → (tooMany c (length lent) ≡ false → (take c (lentAfter d c lent) ≡ levelsPlayed d c (length lent)) × (drop c (lentAfter d c lent) ≡ drop c lent))
     × (tooMany c (length lent) ≡ true → (levelsPlayed d c (length lent) ≡ []) × (lentAfter d c lent ≡ lent))
 
--- A record that the host made up is used by its kept form, and a write or a clock leaves kept values only.
+-- A record that the host made up is used by its kept form, also for what a play answers, and a write or a clock leaves kept values only.
 abbrev pub Keeps : Type 0
 Keeps =
-    (d : Dac) (byte c : ℕ)
+    (d : Dac) (byte c room : ℕ)
     → (lowWritten (kept d) byte ≡ lowWritten d byte) × (kept (lowWritten d byte) ≡ lowWritten d byte)
     × (highWritten (kept d) byte ≡ highWritten d byte) × (kept (highWritten d byte) ≡ highWritten d byte)
     × (levelsOf c (kept d) ≡ levelsOf c d) × (afterClocks (suc c) (kept d) ≡ afterClocks (suc c) d) × (kept (afterClocks (suc c) d) ≡ afterClocks (suc c) d)
+    × (answerOf (kept d) c room ≡ answerOf d c room)
 
 -- A period's levels are those that the last pair completed before it gives, position by position.
 abbrev pub Waves : Type 0
