@@ -2,18 +2,18 @@
 -- of the pair in force, and the record's count is their sum: a first clock starts both anew, every other clock adds its level to both, and writes add to
 -- neither. No pair asks for as many high clocks as there are counts, so no count is cut.
 -- Assumes nothing.
-use Prim.Native.Nat.{ℕ, zero, suc, _+_, _-_, _%_, _<_, _≤_}
+use Prim.Native.Nat.{ℕ, suc, _+_, _-_, _%_, _<_, _≤_}
 use mathlib.Core.Path.{_≡_, refl, sym, ap, ap₂, _∙_}
 use mathlib.Core.Bool.{Bool, true, false, false≢true}
-use mathlib.Core.List.{List, [], _∷_, _++_, append-nil, append-assoc, reverse, reverseAux, reverse-cons, reverse-reverse, reverseAux-append}
+use mathlib.Core.List.{List, [], _∷_, _++_, append-nil, reverse, reverseAux, reverse-cons, reverse-reverse, reverseAux-append}
 use native.Mathlib.Nat.{add-zero}
 use native.Mathlib.Omega.{arith}
 use lib.Dec.{eqb}
-use lib.ListN.{length, take, drop, replicate, length-append, length-drop, replicate-append-replicate}
+use lib.ListN.{length, drop, replicate, length-append, length-drop, replicate-append-replicate}
 use lib.Seq.{drop-length, drop-append-le, drop-at, take-all}
 use borrow.Author.Tests.{eq-eqb, ne-eqb, eqb-true, eqb-false}
 use Rattle.laws.specs.Pick.{pick}
-use Rattle.laws.specs.Said.{Said, accepted}
+use Rattle.laws.specs.Said.{accepted}
 use Rattle.laws.specs.Sums.{sumAll}
 use Rattle.wave.specs.declared.Pair.{Pair}
 use Rattle.dac.specs.declared.Dac.{Dac}
@@ -21,12 +21,12 @@ use Rattle.wave.specs.Wave.{period, level, wave}
 use Rattle.dac.specs.Running.{halves, keptPair, counts, keptCount, kept, afterReset, lowWritten, highWritten, playing, nextLevel, soFar, clocked, afterClocks, levelsOf}
 use Rattle.dac.specs.Play.{tooMany, answerOf, afterPlay}
 use Rattle.periods.specs.Demand.{Event, play, step, run, output, Moment, wroteLow, wroteHigh, clock, cleared, momentsOf, moments, history, lastPair, since, clocks, unreset, Period, heard, highClocks}
-use Rattle.periods.specs.Counts.{sinceFirst, latest, sounded, Counted, Answered, Divided, Divisible, AtEnd, EndAnswered, Carried}
+use Rattle.periods.specs.Counts.{sinceFirst, latest, Counted, Answered, Divided, Divisible, AtEnd, EndAnswered, Carried}
 use Rattle.wave.proofs.Within.{wave-add, sum-wave-add}
 use Rattle.dac.proofs.Clocks.{playing-kept, later-plays, first-so-far, later-so-far, counted as Clocks·counted, moved, levels-within, after-within, length-levels, levels-split, after-split}
 use Rattle.dac.proofs.Answers.{may}
 use Rattle.periods.proofs.Count.{sum-period, sum-first}
-use Rattle.periods.proofs.Stream.{act, through, sound, sound-append, through-history, output-sound, run-through, past, clocks-history, length-sound, pair-small, known, clocked-force, waves, run-past}
+use Rattle.periods.proofs.Stream.{act, through, sound, sound-append, through-history, output-sound, run-through, past, clocks-history, length-sound, pair-small, known, waves, run-past}
 use Rattle.periods.proofs.Exist.{moments-append, played}
 
 -- where a history stands in its period
@@ -230,8 +230,8 @@ pub divisible : Divisible
 unfolding moments momentsOf
 divisible es fs = (
   λ a b room room′ whole most fits fits′ fits-whole. amid es (play a room ∷ play b room′ ∷ []) (play (a + b) whole ∷ []) fs
-    (rw (may a room (omega arith) fits, may b room′ (omega arith) fits′, may (a + b) whole most fits-whole, append-nil (replicate b clock), append-nil (replicate (a + b) clock))
-    (replicate-append-replicate a b clock)),
+      (rw (may a room (omega arith) fits, may b room′ (omega arith) fits′, may (a + b) whole most fits-whole, append-nil (replicate b clock), append-nil (replicate (a + b) clock))
+      (replicate-append-replicate a b clock)),
   λ c room e. amid es (play c room ∷ []) [] fs (rw e refl),
   λ room. amid es (play 0 room ∷ []) [] fs (rw (may 0 room (omega arith) (omega arith)) refl),
 )

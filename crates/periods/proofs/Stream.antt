@@ -150,7 +150,7 @@ pair-small (wroteHigh byte ∷ h) = (omega arith, low-small h)
 pair-small (clock ∷ h) = pair-small h
 pair-small (cleared ∷ h) = (omega arith, omega arith)
 
-pub last-kept : (h : List Moment) → keptPair (lastPair h) ≡ lastPair h
+last-kept : (h : List Moment) → keptPair (lastPair h) ≡ lastPair h
 last-kept h = pair-kept (lastPair h) (pair-small h .0) (pair-small h .1)
 
 -- what the record holds after a history
@@ -182,11 +182,11 @@ known (clock ∷ h) = known-clock h (past h) (known h)
 known (cleared ∷ h) = record { place = refl; held = refl; coarse = refl; fine = refl }
 
 -- a clock at position a with the pair q in force
-pub level-by : (k : Dac) (q : Pair) (a : ℕ) → playing k ≡ q → k .position ≡ a → nextLevel k ≡ level q a
+level-by : (k : Dac) (q : Pair) (a : ℕ) → playing k ≡ q → k .position ≡ a → nextLevel k ≡ level q a
 unfolding nextLevel
 level-by k q a e p = ap₂ level e p
 
-pub clocked-force : (k : Dac) → clocked k .in_force ≡ playing k
+clocked-force : (k : Dac) → clocked k .in_force ≡ playing k
 unfolding clocked
 clocked-force k = refl
 

@@ -54,7 +54,7 @@ abbrev pub Divisible : Type 0
 Divisible =
     (es fs : List Event)
     → ((a b room room′ whole : ℕ) → a + b ≤ period → a ≤ room → b ≤ room′ → a + b ≤ whole
-      → moments (es ++ (play a room ∷ play b room′ ∷ fs)) ≡ moments (es ++ (play (a + b) whole ∷ fs)))
+    → moments (es ++ (play a room ∷ play b room′ ∷ fs)) ≡ moments (es ++ (play (a + b) whole ∷ fs)))
     × ((c room : ℕ) → tooMany c room ≡ true → moments (es ++ (play c room ∷ fs)) ≡ moments (es ++ fs))
     × ((room : ℕ) → moments (es ++ (play 0 room ∷ fs)) ≡ moments (es ++ fs))
 

@@ -130,10 +130,10 @@ sum-pulse i x n =
     omega (arith, sum-append (replicate h 1) (replicate l 0), sum-same h 1, sum-same l 0)
 
 -- a level by what is left, which is 128 or more before the turn
-pub level-left : (left i : ℕ) → i ≤ left → left < 256 → (left - i) / 128 ≡ levelBelow (127 + i) left
-level-left left i most small = go (ltb (127 + i) left) refl
+pub level-left : (left i v : ℕ) → i ≤ left → left < 256 → v ≡ (left - i) / 128 → v ≡ levelBelow (127 + i) left
+level-left left i v most small e = go (ltb (127 + i) left) refl
   where
-    go : (b : Bool) → ltb (127 + i) left ≡ b → (left - i) / 128 ≡ pick b 1 0
+    go : (b : Bool) → ltb (127 + i) left ≡ b → v ≡ pick b 1 0
     go true t = let below = ltb-true (127 + i) left t in omega arith
     go false t = let above = ltb-false (127 + i) left t in omega arith
 

@@ -3,8 +3,8 @@ ghost use mathlib.Core.Path.{_≡_};
 ghost use Prim.Native.Nat.{_+_, _-_, _%_, _<_, _≤_, min};
 ghost use lib.ListN.{length};
 ghost use Rattle.laws.specs.Sums.{sumAll};
-ghost use Rattle.wave.specs.Wave.{period, subPeriod, subPeriods, added as addedOf, wave, waveIn, laid};
-ghost use Rattle.wave.specs.Steps.{levelBelow, highIn, pulse, Lays};
+ghost use Rattle.wave.specs.Wave.{period, subPeriod, subPeriods, added as addedOf, waveIn, laid};
+ghost use Rattle.wave.specs.Steps.{highIn, pulse, Lays};
 
 // In clocks.
 pub const PERIOD: usize = 16384;
@@ -30,7 +30,7 @@ pub fn lay(levels: &mut [u8], pair: Pair, from: usize) -> usize
     ensures { λ r. ⌜ (r ≡ sumAll (waveIn pair from (length (now (levels .entry))))) × (now (levels .exit) ≡ laid pair from (now (levels .entry))) ⌝ }
 {
     if PERIOD <= from {
-        return 0;
+        return 0usize;
     }
     let left = SUB_PERIOD - from % SUB_PERIOD;
     if levels.len() <= left {
@@ -114,8 +114,8 @@ fn lay_ready(levels: &mut [u8], pair: Pair, from: usize) -> usize
     if levels.len() <= i {
         return high;
     }
-    let rest = lay_within(&mut levels[i..], pair, from + i);
-    high + rest
+    let last = lay_within(&mut levels[i..], pair, from + i);
+    high + last
 }
 
 // The levels of the whole of sub-period n.

@@ -1,7 +1,7 @@
 -- `wave::lay` meets its contract: as many levels as there are bytes, and none from the period's end on.
 -- Assumes nothing.
 use Prim.Native.Nat.{_+_, _-_, _≤_, min}
-use mathlib.Core.Path.{_≡_, sym, _∙_}
+use mathlib.Core.Path.{_≡_, sym}
 use native.Mathlib.Omega.{arith}
 use borrow.Author.Needs.{needs}
 use lib.ListN.{length, take}

@@ -4,7 +4,6 @@ use Prim.Native.Nat.{_+_, _-_, _*_}
 use mathlib.Core.Path.{_≡_}
 use native.Mathlib.Omega.{arith}
 use borrow.Author.Needs.{needs}
-use lib.ListN.{length}
 use Rattle.wave.proofs.Within.{lays-most, Begun, begun-none, begun-whole, begun-all, begun-rest}
 use Rattle.wave.proofs.lay_each.Statement.{statement}
 use Rattle.wave.proofs.lay_each.Tie as tie

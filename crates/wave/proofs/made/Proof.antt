@@ -51,11 +51,10 @@ same-length-2 c = search needs
 returns-2 : tie.Need-returns-2
 returns-2 c =
     let a = (let p : tie.Start = search in p .args) in
-    let more = (let p : tie.After-added = search in p .added) in
     let laid = (let p : tie.After-many2 = search in p .many2 .ensures) in
+    let n = length (a .levels .now) in
     let least = added-le (a .pair .fine) (a .n) in
-    let high : a .pair .coarse + more .result ≡ highIn (a .pair) (a .n) = omega arith in
-    (high, one-more (a .pair .coarse) (more .result) 127 _ (length (a .levels .now)) _ (omega arith) (omega arith) (omega arith) laid ∙ ap (λ (x : ℕ). pulse 0 x (length (a .levels .now))) high)
+    (omega arith, one-more (a .pair .coarse) _ 127 _ n _ (omega arith) (omega arith) (omega arith) laid ∙ ap (λ (x : ℕ). pulse 0 x n) (omega arith))
 
 pub made-spec : {M : Type 1} → statement M
 made-spec =

@@ -4,7 +4,6 @@ use Prim.Native.Nat.{_+_, _-_, _≤_}
 use mathlib.Core.Path.{sym, _∙_}
 use mathlib.Core.List.{append-nil}
 use native.Mathlib.Omega.{arith}
-use borrow.Author.Needs.{needs}
 use lib.ListN.{length}
 use lib.Seq.{drop-length}
 use Rattle.laws.specs.Lists.{tabulate}
@@ -42,7 +41,7 @@ loop-again : tie.Need-loop-again Inv-loop μ-loop
 loop-again c =
     let l = (let p : tie.At-loop Inv-loop μ-loop = search in p .loop) in
     let a = (let p : tie.Start Inv-loop μ-loop = search in p .args) in
-    (omega arith, filled-more _ (l .i) (l .levels) _ _ (omega arith) (level-left (a .left) (l .i) (omega arith) (omega arith)) (l .inv .1))
+    (omega arith, filled-more _ (l .i) (l .levels) _ _ (omega arith) (level-left (a .left) (l .i) _ (omega arith) (omega arith) (omega arith)) (l .inv .1))
 
 same-length : tie.Need-same-length Inv-loop μ-loop
 same-length c = omega arith

@@ -1,11 +1,10 @@
 -- `wave::ready` meets its contract: it is high for as many clocks as the pair says.
 -- Assumes nothing.
-use Prim.Native.Nat.{ℕ}
-use mathlib.Core.Path.{_≡_, ap, _∙_}
+use mathlib.Core.Path.{_≡_, _∙_}
 use native.Mathlib.Omega.{arith}
 use borrow.Author.Needs.{needs}
 use lib.ListN.{length}
-use Rattle.wave.specs.Steps.{highIn, pulse}
+use Rattle.wave.specs.Steps.{highIn}
 use Rattle.wave.proofs.Fine.{added-le}
 use Rattle.wave.proofs.Within.{same-turn}
 use Rattle.wave.proofs.ready.Statement.{statement}
