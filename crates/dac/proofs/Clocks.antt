@@ -27,9 +27,9 @@ pair-kept q hc hf =
     rw (a, b)
 
 -- the kept form by its parts
-pub kept-by : (d : Dac) (p : ℕ) (h c f : Pair) (n : ℕ) → p ≡ d .position % period → h ≡ keptPair (d .held) → c ≡ keptPair (d .completed) → f ≡ keptPair (d .in_force)
-    → n ≡ keptCount (d .high) → dacOf p h c f n ≡ kept d
-kept-by d p h c f n ep eh ec ef en = λ i. dacOf (ep i) (eh i) (ec i) (ef i) (en i)
+pub kept-by : (d k : Dac) (p : ℕ) (h c f : Pair) (n : ℕ) → k ≡ dacOf p h c f n → p ≡ d .position % period → h ≡ keptPair (d .held) → c ≡ keptPair (d .completed)
+    → f ≡ keptPair (d .in_force) → n ≡ keptCount (d .high) → k ≡ kept d
+kept-by d k p h c f n is ep eh ec ef en = is ∙ (λ i. dacOf (ep i) (eh i) (ec i) (ef i) (en i))
 
 pub keptPair-kept : (q : Pair) → keptPair (keptPair q) ≡ keptPair q
 keptPair-kept q = pair-kept (keptPair q) (omega arith) (omega arith)

@@ -178,5 +178,5 @@ fn playing(dac: Dac) -> Pair
 fn so_far(dac: Dac) -> u16
     ensures { λ r. ⌜ r ≡ soFar dac ⌝ }
 {
-    if dac.position == 0 { 0 } else { dac.high }
+    if 0 < dac.position { dac.high } else { 0 }
 }

@@ -11,10 +11,10 @@ pub const PERIOD: usize = 16384;
 
 const SUB_PERIOD: usize = 128;
 
-// Fewer clocks than this are laid one by one.
+// Fewer clocks than this, of one sub-period, are laid one by one.
 const FEW: usize = 8;
 
-// From so many clocks on, levels of two kinds of sub-periods are made ready before they are laid.
+// From so many clocks on it pays to make both kinds of sub-periods ready before any is laid.
 const LONG: usize = 1024;
 
 // The halves, of 7 bits each, as the DAC keeps them. Of larger ones, a coarse half makes every clock high, and bit 7 of a fine half counts for nothing.
@@ -63,29 +63,19 @@ fn lay_across(levels: &mut [u8], pair: Pair, from: usize) -> usize
     first + others
 }
 
-// The levels from the first clock of a sub-period on.
+// The levels from the first clock of a sub-period on: whole sub-periods, and what is left.
 fn lay_on(levels: &mut [u8], pair: Pair, from: usize) -> usize
     requires { ⌜ (from + length (now levels) ≤ period) × (from % subPeriod ≡ 0) ⌝ }
     ensures { λ r. ⌜ Lays pair from (length (now (levels .entry))) r (now (levels .exit)) ⌝ }
 {
-    if levels.len() < LONG {
-        return lay_each(levels, pair, from);
-    }
-    lay_ready(levels, pair, from)
-}
-
-// Whole sub-periods, each made where it is laid, and what is left.
-fn lay_each(levels: &mut [u8], pair: Pair, from: usize) -> usize
-    requires { ⌜ (from + length (now levels) ≤ period) × (from % subPeriod ≡ 0) ⌝ }
-    ensures { λ r. ⌜ Lays pair from (length (now (levels .entry))) r (now (levels .exit)) ⌝ }
-{
     let past = (from + levels.len()) / SUB_PERIOD;
+    let long = LONG <= levels.len();
     let mut n = from / SUB_PERIOD;
     let mut high = 0usize;
     let mut i = 0usize;
     while n < past {
         let end = i + SUB_PERIOD;
-        high += made(&mut levels[i..end], pair, n);
+        high += whole(&mut levels[i..end], pair, n, long);
         i = end;
         n += 1;
     }
@@ -96,29 +86,18 @@ fn lay_each(levels: &mut [u8], pair: Pair, from: usize) -> usize
     high + rest
 }
 
-// The same for many sub-periods, which are of two kinds: the compiler makes both ready before the loop.
-fn lay_ready(levels: &mut [u8], pair: Pair, from: usize) -> usize
-    requires { ⌜ (from + length (now levels) ≤ period) × (from % subPeriod ≡ 0) ⌝ }
-    ensures { λ r. ⌜ Lays pair from (length (now (levels .entry))) r (now (levels .exit)) ⌝ }
+// The levels of the whole of sub-period n, in one of two ways. The compiler makes a loop of each way out of the one above.
+fn whole(levels: &mut [u8], pair: Pair, n: usize, long: bool) -> usize
+    requires { ⌜ (n < subPeriods) × (length (now levels) ≡ subPeriod) ⌝ }
+    ensures { λ r. ⌜ (r ≡ highIn pair n) × (now (levels .exit) ≡ pulse 0 (highIn pair n) (length (now (levels .entry)))) ⌝ }
 {
-    let past = (from + levels.len()) / SUB_PERIOD;
-    let mut n = from / SUB_PERIOD;
-    let mut high = 0usize;
-    let mut i = 0usize;
-    while n < past {
-        let end = i + SUB_PERIOD;
-        high += ready(&mut levels[i..end], pair, n);
-        i = end;
-        n += 1;
+    if long {
+        return ready(levels, pair, n);
     }
-    if levels.len() <= i {
-        return high;
-    }
-    let last = lay_within(&mut levels[i..], pair, from + i);
-    high + last
+    made(levels, pair, n)
 }
 
-// The levels of the whole of sub-period n.
+// By the coarse half, the same in every turn, and the clock that is added stored over it.
 fn made(levels: &mut [u8], pair: Pair, n: usize) -> usize
     requires { ⌜ (n < subPeriods) × (length (now levels) ≡ subPeriod) ⌝ }
     ensures { λ r. ⌜ (r ≡ highIn pair n) × (now (levels .exit) ≡ pulse 0 (highIn pair n) (length (now (levels .entry)))) ⌝ }
@@ -134,8 +113,8 @@ fn made(levels: &mut [u8], pair: Pair, n: usize) -> usize
     coarse + more as usize
 }
 
-// The same, with a call of its own for each of the two kinds, as many high clocks as the coarse half says or one more: its levels are the same in every turn
-// of the loop above.
+// By a call for each of the two kinds, as many high clocks as the coarse half says or one more: the levels of both are the same in every turn, and are ready
+// before the loop.
 fn ready(levels: &mut [u8], pair: Pair, n: usize) -> usize
     requires { ⌜ (n < subPeriods) × (length (now levels) ≡ subPeriod) ⌝ }
     ensures { λ r. ⌜ (r ≡ highIn pair n) × (now (levels .exit) ≡ pulse 0 (highIn pair n) (length (now (levels .entry)))) ⌝ }
@@ -151,7 +130,7 @@ fn ready(levels: &mut [u8], pair: Pair, n: usize) -> usize
     high
 }
 
-// The levels of clocks within one sub-period. A whole one has a call of its own: there the compiler knows how many clocks it lays.
+// The levels of clocks within one sub-period. Few of them, and a whole one, have calls of their own: there the compiler knows more of how many it lays.
 fn lay_within(levels: &mut [u8], pair: Pair, from: usize) -> usize
     requires { ⌜ (from < period) × (from % subPeriod + length (now levels) ≤ subPeriod) ⌝ }
     ensures { λ r. ⌜ Lays pair from (length (now (levels .entry))) r (now (levels .exit)) ⌝ }
@@ -172,7 +151,7 @@ fn lay_within(levels: &mut [u8], pair: Pair, from: usize) -> usize
     count
 }
 
-// Levels that are high while the number that is left, one less for each, is 128 or more: the compiler lays many of them at a time.
+// Levels by what is left, one less with each: high while that is 128 or more. So the compiler lays many at a time, whatever it knows of the first.
 fn many(levels: &mut [u8], left: u8)
     requires { ⌜ length (now levels) ≤ left + 1 ⌝ }
     ensures { λ _. ⌜ now (levels .exit) ≡ pulse 127 left (length (now (levels .entry))) ⌝ }

@@ -1,6 +1,5 @@
 -- `dac::kept` meets its contract.
 -- Assumes nothing.
-use mathlib.Core.Path.{_∙_}
 use native.Mathlib.Omega.{arith}
 use borrow.Author.Needs.{needs}
 use Rattle.dac.proofs.Clocks.{kept-by}
@@ -38,7 +37,7 @@ returns c =
     let completed = (let p : tie.After-kept-pair2 = search in p .kept-pair2 .ensures) in
     let in-force = (let p : tie.After-kept-pair3 = search in p .kept-pair3 .ensures) in
     let made = (let p : tie.After-dac-of = search in p .dac-of .ensures) in
-    made ∙ kept-by dac _ _ _ _ _ (omega arith) held completed in-force (omega arith)
+    kept-by dac _ _ _ _ _ _ made (omega arith) held completed in-force (omega arith)
 
 pub kept-spec : {M : Type 1} → statement M
 kept-spec = tie.close (tie.spec cast-position cast-position-2 kept-pair-requires kept-pair-requires-2 kept-pair-requires-3 cast-high cast-high-2 dac-of-requires returns)

@@ -1,6 +1,6 @@
 -- `wave::made` meets its contract: it is high for as many clocks as the coarse half says, and the clock behind them is the one that is added.
 -- Assumes nothing.
-use Prim.Native.Nat.{ℕ, _+_}
+use Prim.Native.Nat.{ℕ}
 use mathlib.Core.Path.{_≡_, ap, _∙_}
 use native.Mathlib.Omega.{arith}
 use borrow.Author.Needs.{needs}
