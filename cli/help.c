@@ -164,7 +164,7 @@ static const char on_play[] =
     "\n"
     "Plays the 14-bit tuning DAC from reset, and prints a line for each period: the\n"
     "pair in force, T = 128 coarse + fine, and how many of its clocks were high, as\n"
-    "the DAC's running record counts them: T, once the period is over.\n"
+    "the DAC's running record counts them: T, if it was played to its end.\n"
     "\n"
     "  -o WAVE.vcd   level, coarse and fine clock by clock, for a wave viewer; with\n"
     "                -o - the lines go to standard error\n"

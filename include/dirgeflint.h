@@ -164,8 +164,8 @@ dirgeflint_answer dirgeflint_pulse_level(uint32_t channel, uint8_t byte, uint32_
  * modulo 128, its position and its count of high clocks modulo 16,384, and every call but a refused play and a play of 0 clocks leaves
  * such kept values.
  *
- * The record counts the high clocks, so that no host has to add up levels: high is how many there were since the latest first clock of a
- * period, that clock included, in however many plays. Within a period it is the sum of the bytes that were played of it so far, and after
+ * The record counts the high clocks, so that no host has to add up levels: high is how many there were from the last first clock of a
+ * period on, that clock included, in however many plays. Within a period it is the sum of the bytes that were played of it so far, and after
  * the last clock it is T of the pair in force. Writes leave it, and so it stays until the next period's first clock is played, which
  * starts it anew. A play that goes past the end of a period leaves the count of the period in which it ends; to have that of the period
  * before, play to its end first, which is DIRGEFLINT_PERIOD - position clocks. In a record that the host made up the count goes on from
@@ -185,7 +185,7 @@ typedef struct dirgeflint_dac {
     dirgeflint_pair held;      /* what the high and the low register keep */
     dirgeflint_pair completed; /* the latest completed pair */
     dirgeflint_pair in_force;  /* the pair that is being played */
-    uint16_t high;             /* high clocks since the latest first clock of a period */
+    uint16_t high;             /* count: high clocks from the last first clock of a period on; not of the high register */
 } dirgeflint_dac;
 
 /*

@@ -52,7 +52,7 @@ impl Dac {
         }
     }
 
-    // How many clocks were high since the latest first clock of a period; or the number of the refusal.
+    // How many clocks were high from the last first clock of a period on; or the number of the refusal.
     fn play(&mut self, clocks: u32, levels: &mut [u8]) -> Result<u32, u32> {
         // The library writes to the record and to the slice, and nowhere else.
         let answer = unsafe { dirgeflint_dac_play(self, clocks, levels.as_mut_ptr(), levels.len()) };

@@ -31,7 +31,7 @@ public:
 
     unsigned share() const { return 128u * record.in_force.coarse + record.in_force.fine; }
 
-    // How many clocks were high since the latest first clock of a period; after the period's last clock that is share().
+    // How many clocks were high from the last first clock of a period on; once the period is over that is share().
     unsigned high() const { return record.high; }
 
 private:

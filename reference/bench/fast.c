@@ -64,6 +64,9 @@ static void fast_dac_write_high(dirgeflint_dac *dac, uint8_t byte)
     fast_store(dac, (all & ~(uint64_t)0xFFFF00000000) | (all << 16 & (uint64_t)0xFFFF00000000), dac->high);
 }
 
+#ifdef HARDER
+#include "harder.c"
+#else
 /* One more for a sub-period that the fine half picks: its lowest set bit, turned round, is the fine bit that serves it. */
 static uint32_t fast_high(uint64_t all, uint32_t sub)
 {
@@ -115,6 +118,7 @@ static dirgeflint_answer fast_dac_play(dirgeflint_dac *dac, uint32_t clocks, uin
     fast_store(dac, (all & ~(uint64_t)0xFFFF) | position, high);
     return fast_answer(0, 0, high & 16383);
 }
+#endif
 
 static void fast_port_reset(dirgeflint_port *port)
 {

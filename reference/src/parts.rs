@@ -37,7 +37,7 @@ pub struct RunningRecord {
     pub held: Pair,
     pub completed: Pair,
     pub in_force: Pair,
-    /// The high clocks since the latest first clock of a period.
+    /// The high clocks from the last first clock of a period on.
     pub high: u16,
 }
 

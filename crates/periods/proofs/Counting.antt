@@ -1,4 +1,4 @@
--- The count of high clocks over every sequence of events. After a history, the levels since the latest first clock of a period are the first levels of the wave
+-- The count of high clocks over every sequence of events. After a history, the levels from the last first clock of a period on are the first levels of the wave
 -- of the pair in force, and the record's count is their sum: a first clock starts both anew, every other clock adds its level to both, and writes add to
 -- neither. No pair asks for as many high clocks as there are counts, so no count is cut.
 -- Assumes nothing.
