@@ -64,6 +64,11 @@ static void fast_dac_write_high(dirgeflint_dac *dac, uint8_t byte)
     fast_store(dac, (all & ~(uint64_t)0xFFFF00000000) | (all << 16 & (uint64_t)0xFFFF00000000), dac->high);
 }
 
+FAST_INLINE uint32_t fast_least(uint32_t a, uint32_t b)
+{
+    return a < b ? a : b;
+}
+
 #ifdef HARDER
 #include "harder.c"
 #else
@@ -72,11 +77,6 @@ static uint32_t fast_high(uint64_t all, uint32_t sub)
 {
     uint32_t coarse = (uint32_t)(all >> 48 & 127), fine = (uint32_t)(all >> 56);
     return coarse + (fine * (sub & -sub) >> 6 & 1);
-}
-
-static uint32_t fast_least(uint32_t a, uint32_t b)
-{
-    return a < b ? a : b;
 }
 
 static dirgeflint_answer fast_dac_play(dirgeflint_dac *dac, uint32_t clocks, uint8_t *levels, size_t levels_length)

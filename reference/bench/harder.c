@@ -13,11 +13,6 @@ FAST_INLINE uint32_t fast_coarse(uint64_t all)
     return (uint32_t)(all >> 48 & 127);
 }
 
-FAST_INLINE uint32_t fast_least(uint32_t a, uint32_t b)
-{
-    return a < b ? a : b;
-}
-
 /* So many levels: bit 7 of a count that goes down, set as long as the clock is below the number of high ones. */
 FAST_INLINE void fast_count(uint8_t *levels, int run, uint8_t count)
 {
