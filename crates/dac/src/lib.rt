@@ -125,6 +125,7 @@ fn run(dac: Dac, count: usize, levels: &mut [u8]) -> Dac
     let next = after.completed;
     let anew = wave::lay_from_start(&mut levels[left..count], next);
     after.in_force = next;
+    // of fewer clocks than a period has, so it is a kept count
     after.high = anew as u16;
     after
 }
