@@ -27,7 +27,7 @@ use Rattle.dac.proofs.Clocks.{playing-kept, later-plays, first-so-far, later-so
 use Rattle.dac.proofs.Answers.{may}
 use Rattle.periods.proofs.Count.{sum-period, sum-first}
 use Rattle.periods.proofs.Stream.{act, through, sound, sound-append, through-history, output-sound, run-through, past, clocks-history, length-sound, pair-small, known, waves, run-past}
-use Rattle.periods.proofs.Exist.{moments-append, played}
+use Rattle.periods.proofs.Exist.{moments-append}
 
 -- where a history stands in its period
 record Within (h : List Moment) (n : ℕ) : Type 0 where

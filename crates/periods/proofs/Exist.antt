@@ -27,7 +27,7 @@ follows : (es fs : List Event) (ms : List Moment) → moments fs ≡ ms → mome
 follows es fs ms e = moments-append es fs ∙ ap₂ (λ (a b : List Moment). a ++ b) (sym (reverse-reverse (moments es))) e
 
 -- an accepted play
-pub played : (c room : ℕ) → c ≤ period → c ≤ room → momentsOf (play c room) ≡ replicate c clock
+played : (c room : ℕ) → c ≤ period → c ≤ room → momentsOf (play c room) ≡ replicate c clock
 unfolding momentsOf
 played c room most fits = rw (may c room most fits)
 
