@@ -19,7 +19,7 @@ HEADER = include/dirgeflint.h
 
 # The version stands in the header only. A must-fail edit is no part of the library.
 VERSION != sed -n 's/^.define DIRGEFLINT_VERSION "\(.*\)"/\1/p' $(HEADER)
-CRATES != find crates.txt crates -path '*/must-fail' -prune -o -type f -print
+CRATES != find crates.txt crates \( -path '*/must-fail' -o -path '*/edits' \) -prune -o -type f -print
 CLI != echo cli/*.c cli/*.h
 
 PAGES = README.md CHANGELOG.md docs/GUIDE.md docs/SOURCES.md
