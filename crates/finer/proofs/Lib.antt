@@ -1,4 +1,5 @@
-pub mod Split
+pub mod Fonts
 pub mod Texts
 pub mod Pointed
 pub mod Worked
+pub mod Cases

@@ -25,9 +25,8 @@ use Rattle.hex.specs.Reading.{mostText, nth, faultAt, stopOf, faultSaid, judged
 use Rattle.hex.proofs.Lines.{ends-over, body-cuts, body-stops, first-body}
 use Rattle.hex.proofs.Given.{spelled-length}
 use Rattle.image.specs.Image.{imageBytes}
-use Rattle.finer.specs.Document01.{readBy01}
-use Rattle.finer.specs.Claims.{coarser, IsFirstBad, CharacterPoints, IsNoRecord, ShapePoints}
-use Rattle.finer.proofs.Texts.{record-at, fault-none, fault-other, read-coarser}
+use Rattle.finer.specs.Claims.{IsFirstBad, CharacterPoints, IsNoRecord, ShapePoints}
+use Rattle.finer.proofs.Texts.{record-at, fault-none, fault-other}
 
 -- the lines after the first are those of the text after it
 lines-after : (s : List ℕ) → lines (drop (length (getD (lines s) 0 [])) s) ≡ drop 1 (lines s)
@@ -127,20 +126,19 @@ module _ (text : List ℕ) (k : ℕ) (below : k < length (records text)) where
       go false bad true none e = absurd (omega (arith, fault-none (take k (records text)) (nth (records text) k) none))
       go false bad false some e = absurd (omega (arith, fault-other (take k (records text)) (nth (records text) k) some))
 
-  fault-otherwise : said-here .number ≡ 20 → IsNoRecord text (said-here .place)
+  fault-otherwise : said-here .number ≡ 20 → IsNoRecord text k (said-here .place)
   unfolding said-here faultSaid
   fault-otherwise e = go (hasBad (bodyOf (nth (lines text) k))) refl (eqb (length (nth (records text) k)) 0) refl e
     where
       go : (b : Bool) → hasBad (bodyOf (nth (lines text) k)) ≡ b → (d : Bool) → eqb (length (nth (records text) k)) 0 ≡ d
           → pick b (refused 19 (placeOf (lines text) k + firstBad (bodyOf (nth (lines text) k)))) (refused (faultAt (records text) k) (placeOf (lines text) k)) .number ≡ 20
-          → IsNoRecord text
+          → IsNoRecord text k
           (pick b (refused 19 (placeOf (lines text) k + firstBad (bodyOf (nth (lines text) k)))) (refused (faultAt (records text) k) (placeOf (lines text) k)) .place)
       go true bad d _ e = absurd (omega arith)
       go false bad false some e = absurd (omega (arith, fault-other (take k (records text)) (nth (records text) k) some))
       go false bad true none e =
           let empty = eqb-true (length (nth (records text) k)) 0 none in
           record {
-            line = k;
             inside = within-lines;
             starts = refl;
             clean = bad;
@@ -178,15 +176,11 @@ module _ (text : List ℕ) (P : ℕ → Type 0) (n : ℕ) (high : 12 < n) where
 pub character-points : CharacterPoints
 character-points text room e =
     let start = placeOf (lines text) (stopOf (records text)) in
-    let is : readBy01 text room .place ≡ start = ap (λ (a : Said). a .place) (read-coarser text room ∙ bad-coarser start (answerOf text room) e) in
-    rw is
-    (told-there text (IsFirstBad text start) 19 (omega arith) room
-    (at-the-line text (IsFirstBad text start) 19 (omega arith) (stopOf (records text)) (fault-points text (stopOf (records text)))) e)
-  where
-    bad-coarser : (start : ℕ) (a : Said) → a .number ≡ 19 → coarser start a ≡ refused 7 start
-    bad-coarser start a e = rw e
+    told-there text (IsFirstBad text start) 19 (omega arith) room
+    (at-the-line text (IsFirstBad text start) 19 (omega arith) (stopOf (records text)) (fault-points text (stopOf (records text)))) e
 
 pub shape-points : ShapePoints
 shape-points text room e =
-    told-there text (IsNoRecord text) 20 (omega arith) room
-    (at-the-line text (IsNoRecord text) 20 (omega arith) (stopOf (records text)) (fault-otherwise text (stopOf (records text)))) e
+    let line = stopOf (records text) in
+    told-there text (IsNoRecord text line) 20 (omega arith) room
+    (at-the-line text (IsNoRecord text line) 20 (omega arith) line (fault-otherwise text line)) e

@@ -1,3 +1,2 @@
-pub mod Document01
 pub mod Claims
 pub mod Examples

@@ -1,1 +1,1 @@
-// No code: what M-102's finer numbers are to document 01's table, and where they point, proved of the accounts of judging, display, writer and hex.
+// No code: what the finer numbers of M-102 tell, and where they point, proved of the accounts of judging, writer and hex.

@@ -1,106 +1,26 @@
--- Painting and writing: the two tests of a font are document 01's one, and the first row above 4095 is where the second fails.
+-- Painting and writing: 4 is told by the first test of a font, that of its length, and 18 by the second, which fails at the first row above 4095.
 -- Assumes nothing.
 use Prim.Native.Nat.{ℕ, _<_}
-use mathlib.Core.Path.{_≡_, refl, sym, _∙_, ap}
+use mathlib.Core.Path.{_≡_, refl, sym, _∙_}
 use mathlib.Core.Bool.{Bool, true, false, not}
-use mathlib.Core.List.{List, _++_}
-use native.Mathlib.Decide.{ℕ-discrete}
+use mathlib.Core.List.{List}
 use native.Mathlib.Omega.{arith}
-use borrow.Author.Tests.{ltb-true, ltb-false, eqb-true, eqb-false, ne-eqb}
+use borrow.Author.Tests.{ltb-true, ltb-false, eqb-true, eqb-false}
 use lib.Dec.{eqb, ltb}
-use lib.ListN.{length, getD, drop}
-use Rattle.laws.specs.Pick.{pick, both}
+use lib.ListN.{length, getD}
+use Rattle.laws.specs.Pick.{pick}
 use Rattle.laws.specs.Said.{Said, accepted, refused}
 use Rattle.laws.specs.Within.{within, firstAbove}
 use Rattle.laws.proofs.Lists.{first-most, first-at, first-before}
 use Rattle.laws.proofs.Scan.{within-first}
-use Rattle.font.specs.Font.{fontRows, mostRow, isFont, fontDot}
+use Rattle.font.specs.Font.{fontRows, mostRow}
 use Rattle.units.specs.declared.Dots.{Dots}
 use Rattle.units.specs.declared.Lines.{Lines}
 use Rattle.judging.specs.declared.Settings.{Settings}
 use Rattle.judging.specs.Judging.{inRange, mostRatio, areWords, onScreen, answerOf as painting}
-use Rattle.display.specs.Words.{kindsOf}
-use Rattle.display.specs.Painting.{lineOf, leftBy}
-use Rattle.image.specs.Image.{imageOf}
-use Rattle.writer.specs.Text.{textOf, textBytes}
-use Rattle.writer.specs.Writing.{answerOf as writing, leftOf as writeLeft}
-use Rattle.finer.specs.Document01.{paintBy01, writeBy01}
-use Rattle.finer.specs.Claims.{coarser, Alike, PaintCoarser, PaintAlike, PaintLeaves, WriteCoarser, WriteAlike, WriteLeaves, PaintLength, WriteLength, IsFirstAbove, PaintPoints, WritePoints}
-
--- coarser numbers refuse the same, and leave an acceptance as it is
-refused-alike : (start : ℕ) (a : Said) → eqb (coarser start a .number) 0 ≡ eqb (a .number) 0
-refused-alike start a = go (ℕ-discrete (a .number) 18) (ℕ-discrete (a .number) 19) (ℕ-discrete (a .number) 20)
-  where
-    go : Dec (a .number ≡ 18) → Dec (a .number ≡ 19) → Dec (a .number ≡ 20) → eqb (coarser start a .number) 0 ≡ eqb (a .number) 0
-    go (yes e) _ _ = rw e
-    go (no _) (yes e) _ = rw e
-    go (no _) (no _) (yes e) = rw e
-    go (no d) (no e) (no f) = rw (ne-eqb (a .number) 18 d, ne-eqb (a .number) 19 e, ne-eqb (a .number) 20 f)
-
-accepted-alike : (start : ℕ) (a : Said) → a .number ≡ 0 → coarser start a ≡ a
-accepted-alike start a e = rw e
-
-pub coarser-alike : (start : ℕ) (a b : Said) → a ≡ coarser start b → Alike a b
-coarser-alike start a b e = (ap (λ (x : Said). eqb (x .number) 0) e ∙ refused-alike start b, λ z. e ∙ accepted-alike start b z)
-
--- a font's fault in document 01's numbers, whatever is tested after it
-font-split : (font : List ℕ) (rest : Said) → coarser 0 rest ≡ rest
-    → pick (not (isFont font)) (refused 4 0) rest
-    ≡ coarser 0 (pick (not (eqb (length font) fontRows)) (refused 4 0) (pick (not (within mostRow font)) (refused 18 (firstAbove mostRow font)) rest))
-unfolding isFont
-font-split font rest same = go (eqb (length font) fontRows) (within mostRow font)
-  where
-    go : (a b : Bool) → pick (not (both a b)) (refused 4 0) rest ≡ coarser 0 (pick (not a) (refused 4 0) (pick (not b) (refused 18 (firstAbove mostRow font)) rest))
-    go true true = sym same
-    go true false = refl
-    go false b = refl
-
-pub paint-coarser : PaintCoarser
-unfolding paintBy01 painting
-paint-coarser words font s line width room = go (not (inRange s)) (eqb (s .ratio) mostRatio) (not (areWords words))
-  where
-    later : (a b : Bool) → coarser 0 (pick a (refused 5 0) (pick b (refused 6 0) (accepted 0))) ≡ pick a (refused 5 0) (pick b (refused 6 0) (accepted 0))
-    later true b = refl
-    later false true = refl
-    later false false = refl
-
-    rest : Said
-    rest = pick (not (onScreen line width)) (refused 5 0) (pick (ltb room (width .0)) (refused 6 0) (accepted 0))
-
-    go : (a b d : Bool)
-        → pick a (refused 1 0) (pick b (refused 2 0) (pick d (refused 3 0) (pick (not (isFont font)) (refused 4 0) rest)))
-        ≡ coarser 0 (pick a (refused 1 0) (pick b (refused 2 0) (pick d (refused 3 0)
-        (pick (not (eqb (length font) fontRows)) (refused 4 0) (pick (not (within mostRow font)) (refused 18 (firstAbove mostRow font)) rest)))))
-    go true b d = refl
-    go false true d = refl
-    go false false true = refl
-    go false false false = font-split font rest (later (not (onScreen line width)) (ltb room (width .0)))
-
-pub paint-alike : PaintAlike
-paint-alike words font s line width room = coarser-alike 0 _ _ (paint-coarser words font s line width room)
-
-pub paint-leaves : PaintLeaves
-unfolding leftBy
-paint-leaves words font s frame line width out =
-    ap (λ (b : Bool). pick b (lineOf (kindsOf words) (fontDot font) s frame line width ++ drop (width .0) out) out)
-    (paint-alike words font s line width (length out) .0)
-
-pub write-coarser : WriteCoarser
-unfolding writeBy01 writing
-write-coarser font room = font-split font (pick (ltb room textBytes) (refused 6 0) (accepted 0)) (later (ltb room textBytes))
-  where
-    later : (b : Bool) → coarser 0 (pick b (refused 6 0) (accepted 0)) ≡ pick b (refused 6 0) (accepted 0)
-    later true = refl
-    later false = refl
-
-pub write-alike : WriteAlike
-write-alike font room = coarser-alike 0 _ _ (write-coarser font room)
-
-pub write-leaves : WriteLeaves
-unfolding writeLeft
-write-leaves font room =
-    ap (λ (b : Bool). pick b (textOf (imageOf font) ++ drop textBytes room) room)
-    (write-alike font (length room) .0)
+use Rattle.writer.specs.Text.{textBytes}
+use Rattle.writer.specs.Writing.{answerOf as writing}
+use Rattle.finer.specs.Claims.{PaintLength, WriteLength, IsFirstAbove, PaintPoints, WritePoints}
 
 -- where the place of 18 points
 first-above : (font : List ℕ) → eqb (length font) fontRows ≡ true → within mostRow font ≡ false → IsFirstAbove font (firstAbove mostRow font)
