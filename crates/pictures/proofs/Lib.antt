@@ -1,2 +1,3 @@
+pub mod Cases
 pub mod Claimed
 pub mod Example
