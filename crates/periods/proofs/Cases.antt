@@ -11,20 +11,19 @@ use lib.Dec.{ltb, eqb}
 use lib.ListN.{take, drop, replicate}
 use borrow.Author.Tests.{eqb-true}
 use Rattle.laws.specs.Pick.{pick}
-use Rattle.laws.specs.Said.{Said}
+use Rattle.laws.specs.Said.{Said, accepted}
 use Rattle.laws.specs.Sums.{sumAll}
 use Rattle.laws.proofs.Tests.{upto-at}
 use Rattle.wave.specs.declared.Pair.{Pair}
 use Rattle.dac.specs.declared.Dac.{Dac}
 use Rattle.wave.specs.Wave.{pair, bit, added, level, wave}
-use Rattle.dac.specs.Running.{dacOf, playing, nextLevel, soFar, clocked, afterClocks, levelsOf}
+use Rattle.dac.specs.Running.{dacOf, afterReset, playing, nextLevel, soFar, clocked, afterClocks, levelsOf}
 use Rattle.dac.specs.Play.{answerOf, afterPlay, levelsPlayed, lentAfter}
-use Rattle.periods.specs.Demand.{Event, low, high, play, reset, step, puts, run, output, Moment, wroteLow, wroteHigh, clock, momentsOf, moments, history, lastLow, lastPair, since, clocks, unreset, Period, highs, Demand3, Unaltered, Playable, Writable, Undisturbed}
+use Rattle.periods.specs.Demand.{Event, low, high, play, reset, step, puts, run, output, Moment, wroteLow, wroteHigh, clock, momentsOf, moments, history, lastLow, lastPair, since, clocks, Period, heard, highs, Demand3, Unaltered, Playable, writtenInto, Writable, Undisturbed}
 use Rattle.periods.specs.Theorems.{Serves, BothHalves, Joined, Found, Keeps, Waves, Placed, Reached}
 use Rattle.periods.specs.Counts.{sinceFirst, Counted, Answered, Divided, Divisible, AtEnd, EndAnswered, Carried}
 
 infix 4 _is_ _are_
-
 -- two numbers, and two lists of them
 abbrev _is_ : ℕ → ℕ → Type 0
 m is n = m ≡ n
@@ -85,82 +84,89 @@ keeps-case claim =
     let c = claim loose 200 0 0 in
     (ap (λ (d : Dac). d .held .fine) (c .0), ap (λ (d : Dac). d .completed .coarse) (c .2), ap (λ (d : Dac). d .position) (c .5), ap (λ (d : Dac). d .high) (c .5), ap (λ (s : Said). s .value) (c .7))
 
--- A period that begins after nine clocks and a reset, with coarse half 2 and fine half 64 completed and 32 held. After its first clock halves 72 and 5 are
--- written. Its T is 128 * 2 + 64.
+-- A period that begins after a clock and a reset, with coarse half 2 and fine half 64 completed and 32 held, so that its T is 128 * 2 + 64. After its first
+-- clock halves 72 and 5 are written.
 abbrev before : List Event
-before = high 7 ∷ play 9 9 ∷ reset ∷ low 64 ∷ high 2 ∷ low 32 ∷ []
+before = high 7 ∷ play 1 1 ∷ reset ∷ low 64 ∷ high 2 ∷ low 32 ∷ []
 
 abbrev begun : List Event
 begun = before ++ (play 1 1 ∷ low 200 ∷ high 5 ∷ [])
 
 abbrev all : List Event
-all = begun ++ (play 16383 16383 ∷ [])
+all = before ++ writtenInto 1 1 200 5 16383 16383
 
 abbrev after-first : List Moment
-after-first = wroteLow 200 ∷ wroteHigh 5 ∷ replicate 16383 clock
+after-first = replicate (1 - 1) clock ++ (wroteLow 200 ∷ wroteHigh 5 ∷ replicate 16383 clock)
 
-its-period : Period all (history before) after-first []
-unfolding moments momentsOf since clocks unreset
-its-period = record { whole = refl; starts = refl; unbroken = refl; ended = refl }
+its-period : Writable → Period all (history before) after-first []
+unfolding moments momentsOf since
+its-period writable = writable before 1 1 200 5 16383 16383 (omega arith) (omega arith) refl (omega arith) (omega arith) refl
 
--- six levels from the start of a period's sub-period 1 on
+-- four levels from the start of its sub-period 1 on
 abbrev some-levels : List ℕ → List ℕ
-some-levels l = take 6 (drop 128 l)
+some-levels l = take 4 (drop 128 l)
 
-pub waves-case : Waves → (1 ∷ 1 ∷ 1 ∷ 0 ∷ 0 ∷ 0 ∷ []) are (1 ∷ 1 ∷ 1 ∷ 0 ∷ 0 ∷ 0 ∷ [])
-unfolding run step output puts afterPlay levelsPlayed afterClocks levelsOf clocked nextLevel soFar playing wave level added trailingZeros moments momentsOf lastLow lastPair clocks
-waves-case claim = ap some-levels (claim all (history before) after-first [] its-period)
+pub waves-case : Writable → Waves → (1 ∷ 1 ∷ 1 ∷ 0 ∷ []) are (1 ∷ 1 ∷ 1 ∷ 0 ∷ [])
+unfolding output step puts afterPlay levelsPlayed afterClocks levelsOf clocked nextLevel soFar playing wave level added trailingZeros moments momentsOf lastLow lastPair clocks
+waves-case writable claim = ap some-levels (claim all (history before) after-first [] (its-period writable))
 
 -- nine clocks, a reset, three more, and a play of five that is refused
 pub placed-case : Placed → 3 is 3
 unfolding run step afterPlay afterClocks clocked moments momentsOf since
 placed-case claim = claim (play 9 9 ∷ reset ∷ play 3 3 ∷ play 5 4 ∷ [])
 
-pub reached-case : Reached → 16384 is 16384
-unfolding run step afterPlay afterClocks clocked clocks
-reached-case claim = claim before 16384 (omega arith) refl .ended
+-- the clocks before the first one of that period, since the reset and less whole periods
+pub reached-case : Reached → 0 is 0
+unfolding run step afterPlay afterClocks clocked moments momentsOf since
+reached-case claim = claim before 16384 (omega arith) refl .starts
 
--- The same period: how many of its clocks are high, and in its sub-period 1, of which 128 times the count is 384. Where a sub-period begins inside a period
--- no other begins: 259 of the 16,384 clocks from there on are high, and not the 640 of the pair completed before it.
+-- T of that period
+exactly : Writable → Demand3 → highs (heard all (history before)) ≡ 320
+unfolding moments momentsOf lastLow lastPair
+exactly writable claim = claim all (history before) after-first [] (its-period writable) .exact
+
+-- inside a period, where its sub-period 1 begins and another pair is completed
 abbrev inside : List Event
 inside = high 2 ∷ play 128 128 ∷ high 5 ∷ []
 
-pub demand3-case : Demand3 → (320 is 320) × (384 < 448) × (320 < 512) × (128 is 0 → 259 is 640)
-unfolding run step output puts afterPlay levelsPlayed afterClocks levelsOf clocked nextLevel soFar playing level added trailingZeros moments momentsOf lastLow lastPair since clocks unreset highs
-demand3-case claim =
-    let s = claim all (history before) after-first [] its-period in
-    (s .exact, s .below 0 1 (omega arith) (omega arith), s .above 0 1 (omega arith) (omega arith),
-    λ starts. claim (inside ++ (play 16384 16384 ∷ [])) (history inside) (replicate 16383 clock) [] (record { whole = refl; starts = starts; unbroken = refl; ended = refl }) .exact)
+-- T; 128 times the three high clocks of sub-period 1, against T and 128, and the other way round. And no period begins inside another: the two high clocks
+-- that follow there are too few for the pair completed.
+pub demand3-case : Playable → Writable → Demand3 → (highs (heard all (history before)) ≡ 320) × (384 < 448) × (320 < 512) × (128 is 0 → 640 < 384)
+unfolding output step puts afterPlay levelsPlayed afterClocks levelsOf clocked nextLevel soFar playing level added trailingZeros moments momentsOf lastLow lastPair since clocks highs
+demand3-case playable writable claim =
+    let s = claim all (history before) after-first [] (its-period writable) in
+    (exactly writable claim, s .below 0 1 (omega arith) (omega arith), s .above 0 1 (omega arith) (omega arith), none)
+  where
+    none : 128 is 0 → 640 < 384
+    none starts =
+        let p = playable inside 16384 (omega arith) starts in
+        claim (inside ++ (play 16384 16384 ∷ [])) (history inside) (replicate (16384 - 1) clock) [] (record { whole = p .whole; starts = starts; unbroken = p .unbroken; ended = p .ended }) .above 0 0 (omega arith) (omega arith)
 
--- it, and one with the same pair that is played at once from reset
-pub unaltered-case : Unaltered → (1 ∷ 1 ∷ 1 ∷ 0 ∷ 0 ∷ 0 ∷ []) are (1 ∷ 1 ∷ 1 ∷ 0 ∷ 0 ∷ 0 ∷ [])
-unfolding run step output puts afterPlay levelsPlayed afterClocks levelsOf clocked nextLevel soFar playing level added trailingZeros moments momentsOf lastLow lastPair since clocks unreset
-unaltered-case claim =
-    let h = history (low 64 ∷ high 2 ∷ []) in
-    ap some-levels
-    (claim all (history before) after-first [] its-period (low 64 ∷ high 2 ∷ play 16384 16384 ∷ []) h (replicate 16383 clock) [] (record { whole = refl; starts = refl; unbroken = refl; ended = refl }) refl)
+-- it, and one of the same pair that is played at once from reset
+pub unaltered-case : Playable → Writable → Unaltered → (1 ∷ 1 ∷ 1 ∷ 0 ∷ []) are (1 ∷ 1 ∷ 1 ∷ 0 ∷ [])
+unfolding output step puts afterPlay levelsPlayed afterClocks levelsOf clocked nextLevel soFar playing level added trailingZeros moments momentsOf lastLow lastPair since clocks
+unaltered-case playable writable claim =
+    ap some-levels (claim all (history before) after-first [] (its-period writable) _ _ _ _ (playable (low 64 ∷ high 2 ∷ []) 16384 (omega arith) refl) refl)
 
-pub playable-case : Playable → 16384 is 16384
-unfolding moments momentsOf since clocks
-playable-case claim = claim before 16384 (omega arith) refl .ended
+pub playable-case : Playable → 0 is 0
+unfolding moments momentsOf since
+playable-case claim = claim before 16384 (omega arith) refl .starts
 
-pub writable-case : Writable → 16384 is 16384
-unfolding moments momentsOf since clocks
-writable-case claim = claim before 1 1 200 5 16383 16383 (omega arith) (omega arith) refl (omega arith) (omega arith) refl .ended
+pub writable-case : Writable → 0 is 0
+unfolding moments momentsOf since
+writable-case claim = its-period claim .starts
 
--- it, and the period of the pair written into it
-pub undisturbed-case : Undisturbed
-    → ((1 ∷ 1 ∷ 1 ∷ 0 ∷ 0 ∷ 0 ∷ []) are (1 ∷ 1 ∷ 1 ∷ 0 ∷ 0 ∷ 0 ∷ [])) × (0 is 0) × (5 is 5) × (72 is 72)
-    × ((1 ∷ 1 ∷ 1 ∷ 1 ∷ 1 ∷ 1 ∷ []) are (1 ∷ 1 ∷ 1 ∷ 1 ∷ 1 ∷ 1 ∷ []))
-unfolding run step output puts afterPlay levelsPlayed afterClocks levelsOf clocked nextLevel soFar playing wave level added trailingZeros moments momentsOf lastLow lastPair since clocks
+-- the same period with and without the pair written into it, and that pair
+pub undisturbed-case : Undisturbed → ((1 ∷ 1 ∷ 1 ∷ 0 ∷ []) are (1 ∷ 1 ∷ 1 ∷ 0 ∷ [])) × (lastPair (history all) ≡ pair 5 72)
+unfolding output step puts afterPlay levelsPlayed afterClocks levelsOf clocked nextLevel soFar playing level added trailingZeros moments momentsOf since clocks
 undisturbed-case claim =
     let c = claim before 1 1 200 5 16383 16383 16384 (omega arith) (omega arith) refl (omega arith) (omega arith) (omega arith) refl in
-    (ap some-levels (c .0), c .1, ap (λ (q : Pair). q .coarse) (c .2), ap (λ (q : Pair). q .fine) (c .2), ap some-levels (c .3))
+    (ap some-levels (c .0), c .2)
 
--- right after a reset, but for a play that is refused, nothing counts; of 130 clocks the two that are high; of a period and one clock more that one
-pub counted-case : Counted → (0 is 0) × (2 is 2) × (1 is 1)
+-- right after a reset, but for a play that is refused, nothing counts; of 130 clocks the two that are high
+pub counted-case : Counted → (0 is 0) × (2 is 2)
 unfolding run step output puts afterPlay levelsPlayed afterClocks levelsOf clocked nextLevel soFar playing level added trailingZeros moments momentsOf since sinceFirst sumAll
-counted-case claim = (claim (high 3 ∷ play 2 2 ∷ reset ∷ play 1 0 ∷ []), claim (high 1 ∷ play 130 130 ∷ []), claim (high 1 ∷ play 16384 16384 ∷ play 1 1 ∷ []))
+counted-case claim = (claim (high 3 ∷ play 2 2 ∷ reset ∷ play 1 0 ∷ []), claim (high 1 ∷ play 130 130 ∷ []))
 
 -- a play of two clocks after one of one, all three high
 pub answered-case : Answered → 3 is 3
@@ -181,14 +187,15 @@ divisible-case claim =
     let c = claim (high 1 ∷ []) (low 1 ∷ []) in
     (ap clocks (c .0 1 2 1 2 3 (omega arith) (omega arith) (omega arith) (omega arith)), ap clocks (c .1 5 4 refl), ap clocks (c .2 0))
 
--- T of the period above, which the pair written into it leaves alone
-pub at-end-case : AtEnd → 320 is 320
-unfolding run step afterPlay afterClocks clocked nextLevel soFar playing level added trailingZeros moments momentsOf lastLow lastPair
-at-end-case claim = claim all (history before) after-first its-period
+-- T of the period above, after the pair written into it
+pub at-end-case : Writable → AtEnd → run all afterReset .high ≡ 320
+unfolding moments momentsOf lastLow lastPair
+at-end-case writable claim = claim all (history before) after-first (its-period writable)
 
-pub end-answered-case : EndAnswered → 320 is 320
-unfolding run step afterPlay answerOf afterClocks clocked nextLevel soFar playing level added trailingZeros moments momentsOf lastLow lastPair
-end-answered-case claim = ap (λ (s : Said). s .value) (claim begun 16383 16383 (history before) after-first refl its-period)
+-- and the answer of its second play
+pub end-answered-case : Writable → EndAnswered → answerOf (run begun afterReset) 16383 16383 ≡ accepted 320
+unfolding moments momentsOf lastLow lastPair
+end-answered-case writable claim = claim begun 16383 16383 (history before) after-first refl (its-period writable)
 
 -- one clock within a period where the count is the greatest that is kept; three from a first clock on; four of which the second is a first one
 pub carried-case : Carried → (0 is 0) × (2 is 2) × (2 is 2)
