@@ -2,3 +2,4 @@ pub mod Alike
 pub mod Same
 pub mod Order
 pub mod Count
+pub mod Cases
