@@ -6,7 +6,7 @@ use mathlib.Core.Path.{_≡_, refl, sym, ap, _∙_}
 use mathlib.Core.Bool.{Bool, true}
 use mathlib.Core.List.{List, [], _∷_, _++_}
 use native.Mathlib.Omega.{arith}
-use borrow.Author.Tests.{le-leb, eqb-true}
+use borrow.Author.Tests.{lt-ltb, le-leb, eqb-true}
 use lib.Dec.{eqb}
 use lib.ListN.{length, getD, replicate}
 use Rattle.laws.specs.Lines.{firstShown}
@@ -16,7 +16,7 @@ use Rattle.laws.specs.Placing.{cellHas}
 use Rattle.laws.proofs.Counts.{count-most, count-before, count-weaker, count-apart}
 use Rattle.laws.proofs.Lists.{length-tabulate, getD-tabulate}
 use Rattle.laws.proofs.Tests.{upto-at}
-use Rattle.font.specs.Font.{cellRows, cellColumns, fontRows, mostRow, isFont, rowOf, bitSet, fontDot}
+use Rattle.font.specs.Font.{fontCells, cellRows, cellColumns, fontRows, mostRow, isFont, rowOf, bitSet, fontDot}
 use Rattle.font.proofs.Each.{within-each, font-tests}
 use Rattle.display.specs.Cells.{kindCell, afterWord, cellsFrom}
 use Rattle.display.specs.Picture.{shownDot, dotAt}
@@ -129,7 +129,9 @@ drawn =
 
 packed : (font cells : List ℕ) → fontRows ≤ length font → count ≤ length cells → Accepted glyphs font cells different
 unfolding answerOf
-packed font cells room places = rw (are-glyphs 61 below, patterns 61 below, how-many 61 below, le-leb fontRows (length font) room, le-leb count (length cells) places)
+packed font cells room places =
+    let all : patternsIn glyphs ≡ different = omega (arith, patterns 61 below) in
+    rw (are-glyphs 61 below, all, how-many 61 below, le-leb fontRows (length font) room, le-leb count (length cells) places)
 
 -- a call with right words and a font is accepted
 taken : (words font : List ℕ) → areWords words ≡ true → isFont font ≡ true → paintAnswer words font settings (record { 0 = 0 }) (record { 0 = 14 }) 16 .number ≡ 0
@@ -151,4 +153,6 @@ example font cells room places =
 
 pub too-many : TooMany
 unfolding answerOf
-too-many room places = rw (are-glyphs 62 (omega arith), patterns 62 (omega arith))
+too-many room places =
+    let more : fontCells < patternsIn (glyphsTo 62) = omega (arith, patterns 62 (omega arith)) in
+    rw (are-glyphs 62 (omega arith), lt-ltb fontCells (patternsIn (glyphsTo 62)) more)

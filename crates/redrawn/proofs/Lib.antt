@@ -1,3 +1,4 @@
+pub mod Cases
 pub mod Every
 pub mod Same
 pub mod Example
