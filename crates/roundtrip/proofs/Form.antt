@@ -227,6 +227,13 @@ text-lines image =
     ap lines (flat-append recordText (tabulate 512 (recordIn image)) (endRecord ∷ [])) ∙ lines-front 512 (recordIn image) _
     ∙ ap (λ (ls : List (List ℕ)). tabulate 512 (λ n. recordText (recordIn image n)) ++ ls) (ap lines (flat-one recordText endRecord) ∙ lines-one endRecord)
 
+-- line n of them
+pub text-line : (image : List ℕ) (n : ℕ) → n < 512 → nth (lines (textOf image)) n ≡ recordText (recordIn image n)
+text-line image n h =
+    let line : ℕ → List ℕ = λ n. recordText (recordIn image n) in
+    ap (λ (ls : List (List ℕ)). getD ls n []) (text-lines image)
+    ∙ List·getD-append (tabulate 512 line) (recordText endRecord ∷ []) [] n (omega (arith, length-tabulate 512 line)) ∙ getD-tabulate 512 line n [] h
+
 -- a data record's line is of the form
 module _ (n : ℕ) (r : List ℕ) (p : Parts 0 (16 * n) 16 r) where
   record-size : length r ≡ 21
@@ -264,9 +271,6 @@ form-of image whole =
     record {
       size = ap length (text-lines image) ∙ length-append data-lines (recordText endRecord ∷ []) ∙ ap (λ m. m + 1) long;
       each = λ n h.
-          subst (IsDataLine n)
-          (sym (ap (λ (ls : List (List ℕ)). getD ls n []) (text-lines image)
-          ∙ List·getD-append data-lines (recordText endRecord ∷ []) [] n (omega (arith, long)) ∙ getD-tabulate 512 (λ n. recordText (recordIn image n)) n [] h))
-          (record-line n (recordIn image n) (data-parts image (whole .bytes) n h));
+          subst (IsDataLine n) (sym (text-line image n h)) (record-line n (recordIn image n) (data-parts image (whole .bytes) n h));
       last = ap (λ (ls : List (List ℕ)). getD ls 512 []) (text-lines image) ∙ getD-at data-lines (recordText endRecord) [] [] 512 long ∙ end-line;
     }

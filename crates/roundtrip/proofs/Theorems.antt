@@ -46,7 +46,7 @@ module _ (image : List ℕ) (whole : IsImage image) where
   text-image = ap (λ rs. tabulate 8192 (byteIn 255 rs)) text-records ∙ image-given image (whole .bytes) (whole .size)
 
   module _ (room : List ℕ) (fits : 8192 ≤ length room) where
-    text-accepted : reading.answerOf (textOf image) (length room) ≡ accepted 8192
+    pub text-accepted : reading.answerOf (textOf image) (length room) ≡ accepted 8192
     unfolding reading.answerOf
     text-accepted =
         rw (le-ltb (length room) 8192 fits, le-ltb 65535 (length (textOf image)) (omega (arith, text-length image)), text-records) (image-judged image (whole .bytes) (lines (textOf image)))
@@ -70,7 +70,7 @@ module _ (font : List ℕ) (e : isFont font ≡ true) where
       go true false h = omega arith
       go false d h = omega arith
 
-  font-image : IsImage (imageOf font)
+  pub font-image : IsImage (imageOf font)
   font-image = record { size = length-tabulate 8192 (dueAt font); bytes = small-tabulate 8192 (dueAt font) (λ a h. due-small a) }
 
   module _ (text : List ℕ) (fits : 22540 ≤ length text) where
@@ -78,7 +78,7 @@ module _ (font : List ℕ) (e : isFont font ≡ true) where
     unfolding writing.answerOf
     font-accepted = rw (font-tests font e .0, font-tests font e .1, le-ltb (length text) 22540 fits)
 
-    font-written : writtenIn font text ≡ textOf (imageOf font)
+    pub font-written : writtenIn font text ≡ textOf (imageOf font)
     unfolding writing.leftOf
     font-written = rw font-accepted (take-at (textOf (imageOf font)) (drop 22540 text) 22540 (text-length (imageOf font)))
 
@@ -130,7 +130,11 @@ byte-small (l ∷ ls) a = go (gives (recordOf l) a) (byte-small ls a)
     go true h = record-small _ _
     go false h = h
 
+turned-small : (text : List ℕ) → Small (imageIn text)
+turned-small text = small-tabulate 8192 (byteIn 255 (records text)) (λ a h. byte-small (lines text) a)
+
+pub turned-font : (text : List ℕ) → turning.answerOf (imageIn text) 1116 ≡ accepted 0 → isFont (fontOf (imageIn text)) ≡ true
+turned-font text e = gives-font (imageIn text) 1116 e (turned-small text)
+
 pub turned-image-is-a-fonts : TurnedImageIsAFonts
-turned-image-is-a-fonts text e =
-    let bytes : Small (imageIn text) = small-tabulate 8192 (byteIn 255 (records text)) (λ a h. byte-small (lines text) a) in
-    (gives-font (imageIn text) 1116 e bytes, sym (image-again (imageIn text) 1116 e bytes))
+turned-image-is-a-fonts text e = (turned-font text e, sym (image-again (imageIn text) 1116 e (turned-small text)))

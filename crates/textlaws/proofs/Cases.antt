@@ -38,11 +38,11 @@ last = 58 ∷ 48 ∷ 48 ∷ 48 ∷ 48 ∷ 48 ∷ 48 ∷ 48 ∷ 49 ∷ 70 ∷ 70 
 abbrev line : List ℕ → List ℕ
 line body = body ++ (LF ∷ [])
 
--- what holds at the one number that is left holds
+-- what is so at n is so at each number that can only be n
 sole : (P Q : ℕ → Type 0) (n : ℕ) → P n → ((k : ℕ) → Q k → k ≡ n) → (k : ℕ) → Q k → P k
 sole P Q n at only k h = subst P (sym (only k h)) at
 
--- at 0, 1 and 2 and after these
+-- what is so at 0, at 1, at 2 and at each number after these is so at all
 third : (P : ℕ → Type 0) → P 0 → P 1 → P 2 → ((k : ℕ) → P (suc (suc (suc k)))) → (k : ℕ) → P k
 third P a b d more zero = a
 third P a b d more (suc zero) = b
