@@ -19,7 +19,7 @@ use Rattle.hex.specs.Reading.{nth, imageIn}
 use Rattle.hex.specs.Reading as reading
 use Rattle.writer.specs.Text.{digitText, recordBytes, recordText, recordIn, textOf}
 use Rattle.roundtrip.specs.Form.{isUpper, spelled}
-use Rattle.roundtrip.specs.RoundTrip.{IsImage, writtenIn, TextReadsBack, FontComesBack, FormIsTheTexts, OneTextAnImage, WritingGivesTheText, RewritingGivesTheText, TurnedImageIsAFonts}
+use Rattle.roundtrip.specs.RoundTrip.{IsImage, TextReadsBack, FontComesBack, FormIsTheTexts, OneTextAnImage, WritingGivesTheText, RewritingGivesTheText, TurnedImageIsAFonts}
 use Rattle.roundtrip.proofs.Form.{text-line, form-of}
 use Rattle.roundtrip.proofs.Theorems.{text-accepted, font-image, font-written, turned-font}
 
@@ -32,7 +32,8 @@ text-reads-back-case claim image room whole fits =
 pub font-comes-back-case : FontComesBack → (font text image rows : List ℕ) → isFont font ≡ true → 22540 ≤ length text → 8192 ≤ length image → length rows ≡ 1116
     → _≡_ {A = ℕ} 8192 8192
 font-comes-back-case claim font text image rows is-font fits room size =
-    let counted : reading.answerOf (writtenIn font text) (length image) ≡ accepted 8192 = rw (font-written font is-font text fits) (text-accepted (imageOf font) (font-image font is-font) image room) in
+    let counted =
+    ap (λ (t : List ℕ). reading.answerOf t (length image)) (font-written font is-font text fits) ∙ text-accepted (imageOf font) (font-image font is-font) image room in
     ap (λ (a : Said). a .value) (sym counted ∙ claim font text image rows is-font fits room size .reads)
 
 -- an image by its first byte, with zeros after it

@@ -6,12 +6,12 @@ use mathlib.Core.Bool.{Bool, true, false}
 use mathlib.Core.List.{List, [], _∷_, _++_, map}
 use Prim.Native.Nat.{ℕ, _+_, _*_, _/_, _%_, _<_, _≤_}
 use native.Mathlib.Omega.{arith}
-use lib.Dec.{ltb}
-use lib.ListN.{length, drop}
+use lib.Dec.{eqb, ltb}
+use lib.ListN.{length, take, drop}
 use lib.Seq.{take-at}
 use borrow.Author.Tests.{le-ltb}
 use Rattle.laws.specs.Pick.{pick}
-use Rattle.laws.specs.Said.{accepted}
+use Rattle.laws.specs.Said.{Said, accepted}
 use Rattle.font.specs.Font.{isFont, rowOf}
 use Rattle.font.proofs.Each.{font-tests}
 use Rattle.laws.specs.Lists.{tabulate}
@@ -88,14 +88,16 @@ font-comes-back font text image rows e fits room size =
     let written = font-written font e text fits in
     let back = text-reads-back (imageOf font) image (font-image font e) room in
     let is : readIn font text image ≡ imageOf font =
-    rw (written, back .1) (take-at (imageOf font) (drop 8192 image) 8192 (length-tabulate 8192 (dueAt font))) in
-    let turns : turning.answerOf (readIn font text image) (length rows) ≡ accepted 0 = rw (is, size) (image-accepted font) in
+    ap (λ (t : List ℕ). take 8192 (reading.leftOf t image)) written ∙ ap (λ (l : List ℕ). take 8192 l) (back .1)
+    ∙ take-at (imageOf font) (drop 8192 image) 8192 (length-tabulate 8192 (dueAt font)) in
+    let turns : turning.answerOf (readIn font text image) (length rows) ≡ accepted 0 =
+    ap (λ (i : List ℕ). turning.answerOf i (length rows)) is ∙ ap (turning.answerOf (imageOf font)) size ∙ image-accepted font in
     record {
       writes = font-accepted font e text fits;
-      reads = rw written (back .0);
+      reads = ap (λ (t : List ℕ). reading.answerOf t (length image)) written ∙ back .0;
       is-image = is;
       turns = turns;
-      is-font = rw turns (ap fontOf is ∙ font-again font e);
+      is-font = ap (λ (a : Said). pick (eqb (a .number) 0) (fontOf (readIn font text image)) rows) turns ∙ ap fontOf is ∙ font-again font e;
     }
 
 -- the texts of the writer's form are the texts of images
