@@ -25,7 +25,7 @@ use Rattle.hex.specs.Reading.{nth}
 use Rattle.writer.specs.Text.{digitText, bytesText, checksum, recordBytes, recordText, bytesIn, recordIn, endRecord, textOf}
 use Rattle.writer.proofs.Lists.{flat-append, flat-one}
 use Rattle.writer.proofs.Spelling.{bytes-length, end-line}
-use Rattle.roundtrip.specs.Form.{isUpper, spelled, IsDataLine, HasWritersForm}
+use Rattle.roundtrip.specs.Form.{isUpper, spelled, IsDataLine, endLine, HasWritersForm}
 use Rattle.roundtrip.specs.RoundTrip.{IsImage, IsAnImagesText}
 use Rattle.roundtrip.proofs.Lines.{Small, colon-byte, lines-front, lines-one}
 use Rattle.roundtrip.proofs.Records.{small-tabulate, Parts, data-parts}
@@ -227,12 +227,17 @@ text-lines image =
     ap lines (flat-append recordText (tabulate 512 (recordIn image)) (endRecord ∷ [])) ∙ lines-front 512 (recordIn image) _
     ∙ ap (λ (ls : List (List ℕ)). tabulate 512 (λ n. recordText (recordIn image n)) ++ ls) (ap lines (flat-one recordText endRecord) ∙ lines-one endRecord)
 
--- line n of them
+-- line n of them, and the last
 pub text-line : (image : List ℕ) (n : ℕ) → n < 512 → nth (lines (textOf image)) n ≡ recordText (recordIn image n)
 text-line image n h =
     let line : ℕ → List ℕ = λ n. recordText (recordIn image n) in
     ap (λ (ls : List (List ℕ)). getD ls n []) (text-lines image)
     ∙ List·getD-append (tabulate 512 line) (recordText endRecord ∷ []) [] n (omega (arith, length-tabulate 512 line)) ∙ getD-tabulate 512 line n [] h
+
+pub text-last : (image : List ℕ) → nth (lines (textOf image)) 512 ≡ endLine
+text-last image =
+    let line : ℕ → List ℕ = λ n. recordText (recordIn image n) in
+    ap (λ (ls : List (List ℕ)). getD ls 512 []) (text-lines image) ∙ getD-at (tabulate 512 line) (recordText endRecord) [] [] 512 (length-tabulate 512 line) ∙ end-line
 
 -- a data record's line is of the form
 module _ (n : ℕ) (r : List ℕ) (p : Parts 0 (16 * n) 16 r) where
@@ -272,5 +277,5 @@ form-of image whole =
       size = ap length (text-lines image) ∙ length-append data-lines (recordText endRecord ∷ []) ∙ ap (λ m. m + 1) long;
       each = λ n h.
           subst (IsDataLine n) (sym (text-line image n h)) (record-line n (recordIn image n) (data-parts image (whole .bytes) n h));
-      last = ap (λ (ls : List (List ℕ)). getD ls 512 []) (text-lines image) ∙ getD-at data-lines (recordText endRecord) [] [] 512 long ∙ end-line;
+      last = text-last image;
     }
