@@ -1,13 +1,13 @@
 -- The claims about screens of glyphs at a place each, computed. The glyphs have the dots at both ends of their first row.
 -- Assumes nothing.
-use Prim.Native.Nat.{ℕ, _<_}
+use Prim.Native.Nat.{ℕ, _<_, _≤_}
 use mathlib.Core.Path.{_≡_, refl, ap, subst}
 use mathlib.Core.Bool.{true, false}
 use mathlib.Core.List.{List, [], _∷_, _++_}
 use native.Mathlib.Omega.{arith}
 use borrow.Author.Tests.{eqb-true}
 use lib.Dec.{eqb}
-use lib.ListN.{take, replicate}
+use lib.ListN.{length, take, replicate}
 use Rattle.laws.specs.Lines.{firstShown, anyOf}
 use Rattle.laws.specs.Lists.{tabulate, firstOf, countOf}
 use Rattle.laws.specs.Placing.{cellHas}
@@ -23,12 +23,13 @@ use Rattle.display.specs.declared.Kind.the-variants.{Character, Space, Return, 
 use Rattle.display.specs.Words.{kindOf, kindsOf}
 use Rattle.display.specs.Cells.{kindCell, afterWord, cellsFrom}
 use Rattle.display.specs.Picture.{shadowOf, shownDot, dotAt}
-use Rattle.display.specs.Painting.{dotOf, leftBy}
+use Rattle.display.specs.Painting.{dotOf, lineOf, leftBy}
 use Rattle.packer.specs.Glyphs.{samePattern, firstLike, patternsBefore, cellFor}
 use Rattle.packer.specs.Packing.{areWhole, areGlyphs, answerOf as packAnswer, cellsLeft}
-use Rattle.sharing.specs.Sharing.{ShownBy, fontGiven, cellGiven}
+use Rattle.sharing.specs.Sharing.{Accepted, ShownBy, fontGiven, cellGiven}
 use Rattle.redrawn.specs.Screen.{isItem, areItems, wordFor, wordsFor, inCell, EveryWord}
 use Rattle.redrawn.specs.Picture.{SamePicture, SamePictures, PackedPictures}
+use Rattle.redrawn.specs.Example.{glyphsTo, glyphs, items, settings as in-mode-2, Examples, TooMany}
 
 -- a glyph, and a font that has it in its last cell
 abbrev glyph : List ℕ
@@ -126,3 +127,14 @@ packed-pictures-case claim =
 pub every-word-case : EveryWord → true ≡ true
 unfolding isItem kindOf
 every-word-case claim = claim 1007 (omega arith)
+
+-- the 64 glyphs take 62 cells, the last one has cell 61, and its first row is 61 in bits
+pub example-case : Examples → (before spots : List ℕ) → 1116 ≤ length before → 64 ≤ length spots
+    → Accepted glyphs before spots 62
+    × ((cellGiven glyphs before spots 63 ≡ 61)
+    × (lineOf items (fontDot glyphs) in-mode-2 0 (lines 0) (record { 0 = 14 }) ≡ 9 ∷ 9 ∷ 9 ∷ 9 ∷ 9 ∷ 9 ∷ 15 ∷ 15 ∷ 15 ∷ 15 ∷ 9 ∷ 15 ∷ 0 ∷ 0 ∷ []))
+example-case claim before spots for-rows for-cells = let e = claim before spots for-rows for-cells in (e .packed, (e .shared, e .drawn))
+
+-- glyphs of 63 patterns, with room for a font and 64 cells
+pub too-many-case : TooMany → packAnswer (glyphsTo 62) 1116 64 ≡ refused 17 0
+too-many-case claim = claim 1116 64
