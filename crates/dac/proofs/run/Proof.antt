@@ -71,6 +71,13 @@ cast-after-3 c = search needs
 same-length : tie.Need-same-length
 same-length c = search needs
 
+-- There is a clock to play. From the end of the walk that test is far, from here it is near.
+abbrev start-of : tie.After-kept → tie.Start
+start-of p = search
+
+some-clock : (p : tie.After-kept) → 0 < start-of p .args .count
+some-clock p = omega arith
+
 returns-2 : tie.Need-returns-2
 returns-2 c =
     let a = (let p : tie.Start = search in p .args) in
@@ -79,7 +86,7 @@ returns-2 c =
     let q = (let p : tie.After-playing = search in p .playing) in
     let before = (let p : tie.After-so-far = search in p .so-far) in
     let first = (let p : tie.After-lay = search in p .lay) in
-    let some : 0 < a .count = omega arith in
+    let some : 0 < a .count = (let p : tie.After-kept = search in some-clock p) in
     let inside : k .result .position + a .count ≤ period = omega arith in
     let levels : first .last .0 ≡ laid (q .result) (k .result .position) (take (a .count) (a .levels .now)) = first .ensures .1 in
     run-within (a .dac) (k .result) (q .result) (k .ensures) (q .ensures) (a .count) (a .levels .now) (fits .inRoom) (before .result) (first .result) _ _ some inside
