@@ -1,6 +1,6 @@
 -- What each claim of this crate says at one place, computed: the numbers that it comes to there. A case takes the claim, and not its theorem, so that a
--- claim that is changed to a false one is refused here too, and by its numbers. A place where a claim's premise does not hold stands with that premise,
--- false as it is, and with the falsehood that the claim would come to without it.
+-- claim that is changed to a false one is refused here too, by its numbers. That there is a period of 16,384 clocks at the place is handed over as the claim
+-- that says so, `Playable` or `Writable`. A place that a claim leaves out stands with the premise that is false there, and the falsehood that it keeps away.
 -- Assumes nothing.
 use Prim.Native.Nat.{ℕ, _+_, _-_, _/_, _%_, _<_}
 use mathlib.Core.Path.{_≡_, refl, ap}
@@ -23,8 +23,8 @@ use Rattle.periods.specs.Demand.{Event, low, high, play, reset, step, pu
 use Rattle.periods.specs.Theorems.{Serves, BothHalves, Joined, Found, Keeps, Waves, Placed, Reached}
 use Rattle.periods.specs.Counts.{sinceFirst, Counted, Answered, Divided, Divisible, AtEnd, EndAnswered, Carried}
 
-infix 4 _is_ _are_
 -- two numbers, and two lists of them
+infix 4 _is_ _are_
 abbrev _is_ : ℕ → ℕ → Type 0
 m is n = m ≡ n
 
@@ -125,7 +125,7 @@ pub placed-case : Placed → 3 is 3
 unfolding run step afterPlay afterClocks clocked moments momentsOf since
 placed-case claim = claim (play 9 9 ∷ reset ∷ play 3 3 ∷ play 5 4 ∷ [])
 
--- the clocks before the first one of that period, since the reset and less whole periods
+-- the clocks from the reset to that period's first, less whole periods
 pub reached-case : Reached → 0 is 0
 unfolding run step afterPlay afterClocks clocked moments momentsOf since
 reached-case claim = claim before 16384 (omega arith) refl .starts
@@ -134,8 +134,8 @@ reached-case claim = claim before 16384 (omega arith) refl .starts
 abbrev inside : List Event
 inside = high 2 ∷ play 128 128 ∷ high 5 ∷ []
 
--- 128 times the three high clocks of sub-period 1, against T and 128 more, and the other way round; and T. And no period begins inside another: the two high clocks
--- that follow there are too few for the pair completed.
+-- 128 times the three high clocks of that period's sub-period 1, against T and 128 more, and the other way round; and T. And no period begins inside
+-- another: the two high clocks that follow there are too few for the pair completed.
 pub demand3-case : Playable → Writable → Demand3 → (384 < 448) × (320 < 512) × (highs (heard all (history before)) ≡ 320) × (128 is 0 → 640 < 384)
 unfolding output step puts afterPlay levelsPlayed afterClocks levelsOf clocked nextLevel soFar playing level added trailingZeros moments momentsOf lastLow lastPair since clocks highs
 demand3-case playable writable claim =
@@ -147,7 +147,7 @@ demand3-case playable writable claim =
         let p = playable inside 16384 (omega arith) starts in
         claim (inside ++ (play 16384 16384 ∷ [])) (history inside) (replicate (16384 - 1) clock) [] (record { whole = p .whole; starts = starts; unbroken = p .unbroken; ended = p .ended }) .above 0 0 (omega arith) (omega arith)
 
--- it, and one of the same pair that is played at once from reset
+-- that period, and one of the same pair that is played at once from reset
 pub unaltered-case : Playable → Writable → Unaltered → Alike (1 ∷ 1 ∷ 1 ∷ 0 ∷ []) (1 ∷ 1 ∷ 1 ∷ 0 ∷ [])
 unfolding output step puts afterPlay levelsPlayed afterClocks levelsOf clocked nextLevel soFar playing level added trailingZeros moments momentsOf lastLow lastPair since clocks
 unaltered-case playable writable claim =
@@ -155,6 +155,7 @@ unaltered-case playable writable claim =
     let c = alike (ap some-levels (claim all (history before) after-first [] (its-period writable) _ _ _ _ other refl)) in
     c
 
+-- the clocks from the reset to its first, less whole periods
 pub playable-case : Playable → 0 is 0
 unfolding moments momentsOf since
 playable-case claim = claim before 16384 (omega arith) refl .starts
@@ -163,7 +164,7 @@ pub writable-case : Writable → 0 is 0
 unfolding moments momentsOf since
 writable-case claim = its-period claim .starts
 
--- it, with the pair written into it and without, and that pair
+-- that period with the pair written into it and without, and that pair
 without-it : Undisturbed → Alike (1 ∷ 1 ∷ 1 ∷ 0 ∷ []) (1 ∷ 1 ∷ 1 ∷ 0 ∷ [])
 unfolding output step puts afterPlay levelsPlayed afterClocks levelsOf clocked nextLevel soFar playing level added trailingZeros moments momentsOf since clocks
 without-it claim =
