@@ -130,12 +130,12 @@ sum-pulse i x n =
     omega (arith, sum-append (replicate h 1) (replicate l 0), sum-same h 1, sum-same l 0)
 
 -- a level by what is left, which is 128 or more before the turn
-pub level-left : (left i v : ℕ) → i ≤ left → left < 256 → v ≡ (left - i) / 128 → v ≡ levelBelow (127 + i) left
-level-left left i v most small e = go (ltb (127 + i) left) refl
+pub level-left : (left before i v : ℕ) → before + i ≤ left → left < 256 → v ≡ (left - (before + i)) / 128 → v ≡ levelBelow (127 + before + i) left
+level-left left before i v most small e = go (ltb (127 + before + i) left) refl
   where
-    go : (b : Bool) → ltb (127 + i) left ≡ b → v ≡ pick b 1 0
-    go true t = let below = ltb-true (127 + i) left t in omega arith
-    go false t = let above = ltb-false (127 + i) left t in omega arith
+    go : (b : Bool) → ltb (127 + before + i) left ≡ b → v ≡ pick b 1 0
+    go true t = let below = ltb-true (127 + before + i) left t in omega arith
+    go false t = let above = ltb-false (127 + before + i) left t in omega arith
 
 -- clock by clock
 pub pulse-is : (i x n : ℕ) → pulse i x n ≡ tabulate n (λ k. levelBelow (i + k) x)
@@ -164,6 +164,13 @@ within-laid q a i x n r ls is count ahead h =
     let e : pulse i x n ≡ wave q a n = same-turn i x (a % subPeriod) (highIn q (a / subPeriod)) n ahead ∙ sym (as-pulse q a n h) in
     (count ∙ sym (sum-pulse i x n) ∙ ap sumAll e, is ∙ e)
 
+-- a whole one, k, as `whole` lays it
+pub whole-laid : (q : Pair) (a k n r : ℕ) (ls : List ℕ) → a ≡ subPeriod * k → n ≡ subPeriod → (r ≡ highIn q k) × (ls ≡ pulse 0 (highIn q k) n) → Lays q a n r ls
+whole-laid q a k n r ls at long is =
+    let here : k ≡ a / subPeriod = omega arith in
+    let begins : 0 ≡ a % subPeriod = omega arith in
+    within-laid q a 0 (highIn q k) n r ls (is .1) (omega (arith, is .0)) (ap (λ (m : ℕ). highIn q m - 0) here ∙ ap (λ (m : ℕ). highIn q (a / subPeriod) - m) begins) (omega arith)
+
 -- the same of what is left, as `many` and those above it count it
 pub left-laid : (q : Pair) (a x left n r : ℕ) (ls : List ℕ) → ls ≡ pulse 127 left n → x ≡ highIn q (a / subPeriod) → left ≡ x + 127 - a % subPeriod → r ≡ min (x - a % subPeriod) n
     → a % subPeriod + n ≤ subPeriod → Lays q a n r ls
@@ -181,6 +188,28 @@ module _ (xs s : List ℕ) (i k : ℕ) (long : length xs ≡ i) where
 
 length-pulse : (i x n : ℕ) → length (pulse i x n) ≡ n
 length-pulse i x n = ap length (pulse-is i x n) ∙ length-tabulate n _
+
+-- a pulse is its first levels and then the others
+pulse-add : (i x n m : ℕ) → pulse i x (n + m) ≡ pulse i x n ++ pulse (i + n) x m
+pulse-add i x zero m = rw (zero-add, add-zero) (ap (λ (l : List ℕ). l ++ pulse i x m) (no-pulse i x))
+pulse-add i x (suc n) m =
+    rw (suc-add n m, add-suc i n, ← suc-add i n)
+    (sym (one-clock i x (n + m)) ∙ ap (λ (l : List ℕ). pick (ltb i x) 1 0 ∷ l) (pulse-add (suc i) x n m)
+    ∙ ap (λ (l : List ℕ). l ++ pulse (suc i + n) x m) (one-clock i x n))
+
+-- Laid in two runs, first k levels, and then the others, from clock j on.
+pub two-runs : (i x k j : ℕ) (s ys zs : List ℕ) → k ≤ length s → ys ≡ pulse i x (length (take k s))
+    → zs ≡ pulse j x (length (take (length (ys ++ drop k s) - k) (drop k (ys ++ drop k s)))) → j ≡ i + k
+    → take k (ys ++ drop k s) ++ (zs ++ drop (length (ys ++ drop k s) - k) (drop k (ys ++ drop k s))) ≡ pulse i x (length s)
+two-runs i x k j s ys zs h first others behind-them =
+    let is : ys ≡ pulse i x k = first ∙ ap (pulse i x) (length-take-le k s h) in
+    let size : length ys ≡ k = ap length is ∙ length-pulse i x k in
+    let all : k + (length s - k) ≡ length s = omega arith in
+    let over : length (ys ++ drop k s) - k ≡ length s - k = omega (arith, length-append ys (drop k s), length-drop k s) in
+    let room : length (take (length s - k) (drop k s)) ≡ length s - k = length-take-le (length s - k) (drop k s) (omega (arith, length-drop k s)) in
+    let part : zs ≡ pulse (i + k) x (length s - k) = others ∙ ap₂ (λ (c n : ℕ). pulse c x n) behind-them (rw over (ap length (behind ys (drop k s) k (length s - k) size) ∙ room)) in
+    let rest : zs ++ drop (length (ys ++ drop k s) - k) (drop k s) ≡ pulse (i + k) x (length s - k) = rw (over, drop-drop, all, drop-length s) (append-nil zs ∙ part) in
+    put-behind ys (drop k s) k (length (ys ++ drop k s) - k) size zs ∙ ap₂ (λ (l m : List ℕ). l ++ m) is rest ∙ sym (pulse-add i x k (length s - k)) ∙ ap (pulse i x) all
 
 -- A clock more or none, laid behind the high ones.
 pub one-more : (c b i x n : ℕ) (ys : List ℕ) → c < n → b ≤ 1 → x - i ≡ c → ys ≡ pulse i x n → set ys c b ≡ pulse 0 (c + b) n
@@ -241,10 +270,7 @@ module _ (q : Pair) (a : ℕ) where
       → Begun q a (i + subPeriod) s (take i l ++ (ys ++ drop (i + subPeriod - i) (drop i l))) l₀
   begun-whole i n r m s l l₀ ys at g room is sum =
       let part : length (take (i + subPeriod - i) (drop i l)) ≡ subPeriod = length-take-le (i + subPeriod - i) (drop i l) (omega (arith, length-drop i l, g .size)) ∙ omega arith in
-      let here : n ≡ (a + i) / subPeriod = omega arith in
-      let begins : 0 ≡ (a + i) % subPeriod = omega arith in
-      let laid = within-laid q (a + i) 0 (highIn q n) _ m ys (is .1) (omega (arith, is .0, part)) (ap (λ (k : ℕ). highIn q k - 0) here ∙ ap (λ (k : ℕ). highIn q ((a + i) / subPeriod) - k) begins) (omega (arith, part)) in
-      begun-more i (i + subPeriod) r m s l l₀ ys g (omega arith) room laid sum
+      begun-more i (i + subPeriod) r m s l l₀ ys g (omega arith) room (whole-laid q (a + i) n _ m ys at part is) sum
 
   pub begun-all : (i r : ℕ) (l l₀ : List ℕ) → length l₀ ≤ i → Begun q a i r l l₀ → Lays q a (length l₀) r l
   begun-all i r l l₀ h g =

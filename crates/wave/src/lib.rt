@@ -11,8 +11,8 @@ pub const PERIOD: usize = 16384;
 
 const SUB_PERIOD: usize = 128;
 
-// Fewer clocks than this, of one sub-period, are laid one by one.
-const FEW: usize = 8;
+// The compiler lays levels by eights.
+const EIGHT: usize = 8;
 
 // From so many clocks on it pays to make both kinds of sub-periods ready before any is laid.
 const LONG: usize = 1024;
@@ -25,7 +25,7 @@ pub struct Pair {
 }
 
 // Lays the levels that a pair gives from a position on over the bytes lent, 1 for high and 0 for low, as far as the bytes and the period reach, and answers
-// how many are high. Calls that stay within a sub-period, as most of few clocks do, are looked for first.
+// how many are high. Calls that stay within a sub-period, as most of few clocks do, are looked for first, and among them those for a whole one.
 pub fn lay(levels: &mut [u8], pair: Pair, from: usize) -> usize
     ensures { λ r. ⌜ (r ≡ sumAll (waveIn pair from (length (now (levels .entry))))) × (now (levels .exit) ≡ laid pair from (now (levels .entry))) ⌝ }
 {
@@ -34,6 +34,9 @@ pub fn lay(levels: &mut [u8], pair: Pair, from: usize) -> usize
     }
     let left = SUB_PERIOD - from % SUB_PERIOD;
     if levels.len() <= left {
+        if levels.len() == SUB_PERIOD {
+            return whole(levels, pair, from / SUB_PERIOD, false);
+        }
         return lay_within(levels, pair, from);
     }
     let n = least(levels.len(), PERIOD - from);
@@ -86,90 +89,79 @@ fn lay_on(levels: &mut [u8], pair: Pair, from: usize) -> usize
     high + rest
 }
 
-// The levels of the whole of sub-period n, in one of two ways. The compiler makes a loop of each way out of the one above.
+// The levels of the whole of sub-period n, in one of two ways; the compiler makes a loop of each out of the one above. A long call has the levels of both kinds
+// ready before the loop, as they are the same in every turn, and each turn picks one. A short one has only those of the coarse half ready, and stores the clock
+// that is added over them.
 fn whole(levels: &mut [u8], pair: Pair, n: usize, long: bool) -> usize
     requires { ⌜ (n < subPeriods) × (length (now levels) ≡ subPeriod) ⌝ }
     ensures { λ r. ⌜ (r ≡ highIn pair n) × (now (levels .exit) ≡ pulse 0 (highIn pair n) (length (now (levels .entry)))) ⌝ }
 {
-    if long {
-        return ready(levels, pair, n);
-    }
-    made(levels, pair, n)
-}
-
-// By the coarse half, the same in every turn, and the clock that is added stored over it.
-fn made(levels: &mut [u8], pair: Pair, n: usize) -> usize
-    requires { ⌜ (n < subPeriods) × (length (now levels) ≡ subPeriod) ⌝ }
-    ensures { λ r. ⌜ (r ≡ highIn pair n) × (now (levels .exit) ≡ pulse 0 (highIn pair n) (length (now (levels .entry)))) ⌝ }
-{
-    let coarse = pair.coarse as usize;
-    if SUB_PERIOD <= coarse {
-        many(levels, 255);
-        return SUB_PERIOD;
-    }
     let more = added(pair.fine, n);
-    many(levels, pair.coarse + 127);
+    if long {
+        if more == 0 {
+            return of_kind(levels, pair, 0);
+        }
+        return of_kind(levels, pair, 1);
+    }
+    let coarse = of_kind(levels, pair, 0);
+    if SUB_PERIOD <= coarse {
+        return coarse;
+    }
     levels[coarse] = more;
-    coarse + more as usize
+    high_with(pair, more)
 }
 
-// By a call for each of the two kinds, as many high clocks as the coarse half says or one more: the levels of both are the same in every turn, and are ready
-// before the loop.
-fn ready(levels: &mut [u8], pair: Pair, n: usize) -> usize
-    requires { ⌜ (n < subPeriods) × (length (now levels) ≡ subPeriod) ⌝ }
-    ensures { λ r. ⌜ (r ≡ highIn pair n) × (now (levels .exit) ≡ pulse 0 (highIn pair n) (length (now (levels .entry)))) ⌝ }
+// The levels of a whole sub-period of one of the two kinds: no clock is added to it, or one.
+fn of_kind(levels: &mut [u8], pair: Pair, more: u8) -> usize
+    requires { ⌜ length (now levels) ≡ subPeriod ⌝ }
+    ensures { λ r. ⌜ (r ≡ min (pair .coarse + more) subPeriod) × (now (levels .exit) ≡ pulse 0 r (length (now (levels .entry)))) ⌝ }
 {
-    let coarse = pair.coarse as usize;
-    if added(pair.fine, n) == 0 {
-        let high = least(coarse, SUB_PERIOD);
-        many(levels, high as u8 + 127);
-        return high;
-    }
-    let high = least(coarse + 1, SUB_PERIOD);
-    many(levels, high as u8 + 127);
+    let high = high_with(pair, more);
+    run(levels, high as u8 + 127, 0);
     high
 }
 
-// The levels of clocks within one sub-period. Few of them, and a whole one, have calls of their own: there the compiler knows more of how many it lays.
+// The levels of clocks within one sub-period.
 fn lay_within(levels: &mut [u8], pair: Pair, from: usize) -> usize
     requires { ⌜ (from < period) × (from % subPeriod + length (now levels) ≤ subPeriod) ⌝ }
     ensures { λ r. ⌜ Lays pair from (length (now (levels .entry))) r (now (levels .exit)) ⌝ }
 {
     let clock = from % SUB_PERIOD;
-    let high = high_in(pair, from / SUB_PERIOD);
-    let left = high + 127 - clock as u8;
-    let count = least(beyond(high as usize, clock), levels.len());
-    if levels.len() < FEW {
-        many(levels, left);
-        return count;
-    }
-    if levels.len() == SUB_PERIOD {
-        many(levels, left);
-        return count;
-    }
+    let more = added(pair.fine, from / SUB_PERIOD);
+    let high = high_with(pair, more);
+    let left = high as u8 + 127 - clock as u8;
     many(levels, left);
-    count
+    least(beyond(high, clock), levels.len())
 }
 
-// Levels by what is left, one less with each: high while that is 128 or more. So the compiler lays many at a time, whatever it knows of the first.
+// Levels by what is left, one less with each: high while that is 128 or more. Those that are over when the others are taken by eights are a run of their own, and
+// come first: of it the compiler knows that it is short, and of the others that nothing is over.
 fn many(levels: &mut [u8], left: u8)
     requires { ⌜ length (now levels) ≤ left + 1 ⌝ }
     ensures { λ _. ⌜ now (levels .exit) ≡ pulse 127 left (length (now (levels .entry))) ⌝ }
 {
+    let few = levels.len() % EIGHT;
+    run(&mut levels[..few], left, 0);
+    run(&mut levels[few..], left, few as u8);
+}
+
+// A run of these levels, behind so many others. It reckons in bytes, so that the compiler lays many at a time, whatever it knows of the first.
+fn run(levels: &mut [u8], left: u8, before: u8)
+    requires { ⌜ before + length (now levels) ≤ left + 1 ⌝ }
+    ensures { λ _. ⌜ now (levels .exit) ≡ pulse (127 + before) left (length (now (levels .entry))) ⌝ }
+{
     let mut i = 0usize;
     while i < levels.len() {
-        levels[i] = (left - i as u8) / 128;
+        levels[i] = (left - (before + i as u8)) / 128;
         i += 1;
     }
 }
 
-// How many clocks of sub-period n are high.
-fn high_in(pair: Pair, n: usize) -> u8
-    requires { ⌜ n < subPeriods ⌝ }
-    ensures { λ r. ⌜ r ≡ highIn pair n ⌝ }
+// How many clocks of a sub-period are high to which so many are added, one or none: no more than it has.
+fn high_with(pair: Pair, more: u8) -> usize
+    ensures { λ r. ⌜ r ≡ min (pair .coarse + more) subPeriod ⌝ }
 {
-    let more = added(pair.fine, n);
-    least(pair.coarse as usize + more as usize, SUB_PERIOD) as u8
+    least(pair.coarse as usize + more as usize, SUB_PERIOD)
 }
 
 // The clock, 1 or 0, that a fine half adds to sub-period n. The number n has seven bits; if it ends in exactly z zero bits, z from 0 to 6, the clock is fine

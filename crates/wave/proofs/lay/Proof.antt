@@ -7,7 +7,7 @@ use borrow.Author.Needs.{needs}
 use lib.ListN.{length, take}
 use lib.Seq.{length-take-le}
 use Rattle.wave.specs.Wave.{period}
-use Rattle.wave.proofs.Within.{past-end, first-laid, all-laid}
+use Rattle.wave.proofs.Within.{whole-laid, past-end, first-laid, all-laid}
 use Rattle.wave.proofs.lay.Statement.{statement}
 use Rattle.wave.proofs.lay.Tie as tie
 
@@ -20,14 +20,28 @@ returns c =
 sub-left : tie.Need-sub-left
 sub-left c = search needs
 
-lay-within-requires : tie.Need-lay-within-requires
-lay-within-requires c κs = (omega arith, omega arith)
+whole-requires : tie.Need-whole-requires
+whole-requires c κs = search needs
 
 same-length : tie.Need-same-length
 same-length c = search needs
 
 returns-2 : tie.Need-returns-2
 returns-2 c =
+    let a = (let p : tie.Start = search in p .args) in
+    let laid = (let p : tie.After-whole = search in p .whole .ensures) in
+    let inside : a .from + length (a .levels .now) ≤ period = omega arith in
+    let whole = whole-laid (a .pair) (a .from) _ _ _ _ (omega arith) (omega arith) laid in
+    all-laid (a .pair) (a .from) (a .levels .now) _ _ inside whole
+
+lay-within-requires : tie.Need-lay-within-requires
+lay-within-requires c κs = (omega arith, omega arith)
+
+same-length-2 : tie.Need-same-length-2
+same-length-2 c = search needs
+
+returns-3 : tie.Need-returns-3
+returns-3 c =
     let a = (let p : tie.Start = search in p .args) in
     let within = (let p : tie.After-lay-within = search in p .lay-within .ensures) in
     let inside : a .from + length (a .levels .now) ≤ period = omega arith in
@@ -55,11 +69,11 @@ lay-across-requires c κs =
     let room : length (take n s) ≡ n = length-take-le n s (omega arith) in
     (omega (arith, room), omega (arith, room))
 
-same-length-2 : tie.Need-same-length-2
-same-length-2 c = search needs
+same-length-3 : tie.Need-same-length-3
+same-length-3 c = search needs
 
-returns-3 : tie.Need-returns-3
-returns-3 c =
+returns-4 : tie.Need-returns-4
+returns-4 c =
     let a = (let p : tie.Start = search in p .args) in
     let n = (let p : tie.After-least = search in p .least) in
     let laid = (let p : tie.After-lay-across = search in p .lay-across .ensures) in
@@ -69,5 +83,5 @@ returns-3 c =
 pub lay-spec : {M : Type 1} → statement M
 lay-spec =
     tie.close
-    (tie.spec returns sub-left lay-within-requires same-length returns-2 sub-least least-requires slice-relend-prefix-lay-across
-    slice-aggregate-lay-across lay-across-requires same-length-2 returns-3)
+    (tie.spec returns sub-left whole-requires same-length returns-2 lay-within-requires same-length-2 returns-3 sub-least least-requires
+    slice-relend-prefix-lay-across slice-aggregate-lay-across lay-across-requires same-length-3 returns-4)

@@ -1,60 +1,56 @@
--- `wave::many` meets its contract: the bytes passed are high while what is left is 128 or more.
+-- `wave::many` meets its contract: two runs, one behind the other, are a pulse.
 -- Assumes nothing.
-use Prim.Native.Nat.{_+_, _-_, _≤_}
-use mathlib.Core.Path.{sym, _∙_}
-use mathlib.Core.List.{append-nil}
+use Prim.Native.Nat.{_%_}
+use mathlib.Core.Path.{_≡_, sym}
 use native.Mathlib.Omega.{arith}
-use lib.ListN.{length}
-use lib.Seq.{drop-length}
-use Rattle.laws.specs.Lists.{tabulate}
-use Rattle.laws.proofs.Lists.{Filled, filled-none, filled-more, filled-all}
-use Rattle.wave.specs.Steps.{levelBelow}
-use Rattle.wave.proofs.Within.{pulse-is, level-left}
+use borrow.Author.Needs.{needs}
+use lib.ListN.{length, take}
+use lib.Seq.{length-take-le}
+use Rattle.wave.proofs.Within.{two-runs}
 use Rattle.wave.proofs.many.Statement.{statement}
 use Rattle.wave.proofs.many.Tie as tie
 
-abbrev Inv-loop : tie.InvT-loop
-Inv-loop levels₀ left i₀ levels i = (i ≤ length levels₀) × Filled (λ k. levelBelow (127 + k) left) i levels levels₀
+slice-relend-prefix-run : tie.Need-slice-relend-prefix-run
+slice-relend-prefix-run c = search needs
 
-abbrev μ-loop : tie.MeasureT-loop
-μ-loop levels₀ left i₀ levels i = length levels₀ - i
+slice-aggregate-run : tie.Need-slice-aggregate-run
+slice-aggregate-run c =
+    let s = (let p : tie.Start = search in p .args .levels .now) in
+    sym (length-take-le (length s % 8) s (omega arith))
 
-loop-holds : tie.Need-loop-holds Inv-loop μ-loop
-loop-holds c = (omega arith, filled-none _ _)
+run-requires : tie.Need-run-requires
+run-requires c κs =
+    let s = (let p : tie.Start = search in p .args .levels .now) in
+    let few : length (take (length s % 8) s) ≡ length s % 8 = length-take-le (length s % 8) s (omega arith) in
+    omega (arith, few)
 
-cast-levels : tie.Need-cast-levels Inv-loop μ-loop
-cast-levels c = omega arith
+sub-run : tie.Need-sub-run
+sub-run c = search needs
 
-sub-levels : tie.Need-sub-levels Inv-loop μ-loop
-sub-levels c = omega arith
+part-run-start : tie.Need-part-run-start
+part-run-start c = search needs
 
-slice-write-levels : tie.Need-slice-write-levels Inv-loop μ-loop
-slice-write-levels c = omega arith
+part-run-end : tie.Need-part-run-end
+part-run-end c = search needs
 
-add-i : tie.Need-add-i Inv-loop μ-loop
-add-i c = omega arith
+cast-run : tie.Need-cast-run
+cast-run c = search needs
 
-loop-less : tie.Need-loop-less Inv-loop μ-loop
-loop-less c = omega arith
+run-requires-2 : tie.Need-run-requires-2
+run-requires-2 c κs = search needs
 
-loop-again : tie.Need-loop-again Inv-loop μ-loop
-loop-again c =
-    let l = (let p : tie.At-loop Inv-loop μ-loop = search in p .loop) in
-    let a = (let p : tie.Start Inv-loop μ-loop = search in p .args) in
-    (omega arith, filled-more _ (l .i) (l .levels) _ _ (omega arith) (level-left (a .left) (l .i) _ (omega arith) (omega arith) (omega arith)) (l .inv .1))
+same-length : tie.Need-same-length
+same-length c = search needs
 
-same-length : tie.Need-same-length Inv-loop μ-loop
-same-length c = omega arith
-
-returns : tie.Need-returns Inv-loop μ-loop
+returns : tie.Need-returns
 returns c =
-    let a = (let p : tie.Start Inv-loop μ-loop = search in p .args) in
-    let l = (let p : tie.At-loop Inv-loop μ-loop = search in p .loop) in
+    let a = (let p : tie.Start = search in p .args) in
+    let first = (let p : tie.After-run = search in p .run .ensures) in
+    let others = (let p : tie.After-run2 = search in p .run2 .ensures) in
     let s = a .levels .now in
-    filled-all _ (length s) (l .i) (l .levels) s (omega arith) (omega arith) (l .inv .1)
-    ∙ rw (drop-length s) (append-nil (tabulate (length s) (λ k. levelBelow (127 + k) (a .left))))
-    ∙ sym (pulse-is 127 (a .left) (length s))
+    two-runs 127 (a .left) (length s % 8) _ s _ _ (omega arith) first others (omega arith)
 
 pub many-spec : {M : Type 1} → statement M
 many-spec =
-    tie.close (tie.spec Inv-loop μ-loop loop-holds cast-levels sub-levels slice-write-levels add-i loop-less loop-again same-length returns)
+    tie.close
+    (tie.spec slice-relend-prefix-run slice-aggregate-run run-requires sub-run part-run-start part-run-end cast-run run-requires-2 same-length returns)
