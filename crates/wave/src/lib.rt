@@ -117,7 +117,7 @@ fn of_kind(levels: &mut [u8], pair: Pair, more: u8) -> usize
     ensures { λ r. ⌜ (r ≡ min (pair .coarse + more) subPeriod) × (now (levels .exit) ≡ pulse 0 r (length (now (levels .entry)))) ⌝ }
 {
     let high = high_with(pair, more);
-    run(levels, high as u8 + 127, 0);
+    count_down(levels, high as u8 + 127, 0);
     high
 }
 
@@ -134,19 +134,20 @@ fn lay_within(levels: &mut [u8], pair: Pair, from: usize) -> usize
     least(beyond(high, clock), levels.len())
 }
 
-// Levels by what is left, one less with each: high while that is 128 or more. Those that are over when the others are taken by eights are a run of their own, and
-// come first: of it the compiler knows that it is short, and of the others that nothing is over.
+// Levels by what is left, in two runs: first those, up to seven, that are over when the others are taken by eights. So the compiler knows of the first run that it
+// is short, and of the second that it goes by eights.
 fn many(levels: &mut [u8], left: u8)
     requires { ⌜ length (now levels) ≤ left + 1 ⌝ }
     ensures { λ _. ⌜ now (levels .exit) ≡ pulse 127 left (length (now (levels .entry))) ⌝ }
 {
     let few = levels.len() % EIGHT;
-    run(&mut levels[..few], left, 0);
-    run(&mut levels[few..], left, few as u8);
+    count_down(&mut levels[..few], left, 0);
+    count_down(&mut levels[few..], left, few as u8);
 }
 
-// A run of these levels, behind so many others. It reckons in bytes, so that the compiler lays many at a time, whatever it knows of the first.
-fn run(levels: &mut [u8], left: u8, before: u8)
+// A run of these levels, behind so many others. What is left is one less with each, and a level is high while it is 128 or more: so the compiler lays many at a
+// time, whatever it knows of the first.
+fn count_down(levels: &mut [u8], left: u8, before: u8)
     requires { ⌜ before + length (now levels) ≤ left + 1 ⌝ }
     ensures { λ _. ⌜ now (levels .exit) ≡ pulse (127 + before) left (length (now (levels .entry))) ⌝ }
 {

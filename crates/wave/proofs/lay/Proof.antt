@@ -21,7 +21,7 @@ sub-left : tie.Need-sub-left
 sub-left c = search needs
 
 whole-requires : tie.Need-whole-requires
-whole-requires c κs = search needs
+whole-requires c κs = (omega arith, omega arith)
 
 same-length : tie.Need-same-length
 same-length c = search needs

@@ -11,14 +11,14 @@ use Rattle.wave.proofs.of_kind.Tie as tie
 high-with-requires : tie.Need-high-with-requires
 high-with-requires c κs = search needs
 
-cast-run : tie.Need-cast-run
-cast-run c = search needs
+cast-count-down : tie.Need-cast-count-down
+cast-count-down c = search needs
 
-add-run : tie.Need-add-run
-add-run c = search needs
+add-count-down : tie.Need-add-count-down
+add-count-down c = search needs
 
-run-requires : tie.Need-run-requires
-run-requires c κs = search needs
+count-down-requires : tie.Need-count-down-requires
+count-down-requires c κs = search needs
 
 same-length : tie.Need-same-length
 same-length c = search needs
@@ -27,8 +27,8 @@ returns : tie.Need-returns
 returns c =
     let a = (let p : tie.Start = search in p .args) in
     let high = (let p : tie.After-high-with = search in p .high-with) in
-    let laid = (let p : tie.After-run = search in p .run .ensures) in
+    let laid = (let p : tie.After-count-down = search in p .count-down .ensures) in
     (high .ensures, laid ∙ same-turn 127 _ 0 (high .result) (length (a .levels .now)) (omega arith))
 
 pub of-kind-spec : {M : Type 1} → statement M
-of-kind-spec = tie.close (tie.spec high-with-requires cast-run add-run run-requires same-length returns)
+of-kind-spec = tie.close (tie.spec high-with-requires cast-count-down add-count-down count-down-requires same-length returns)

@@ -1,4 +1,4 @@
--- `wave::run` meets its contract: the bytes passed are high while what is left is 128 or more.
+-- `wave::count_down` meets its contract: the bytes passed are high while what is left is 128 or more.
 -- Assumes nothing.
 use Prim.Native.Nat.{_+_, _-_, _≤_}
 use mathlib.Core.Path.{sym, _∙_}
@@ -10,8 +10,8 @@ use Rattle.laws.specs.Lists.{tabulate}
 use Rattle.laws.proofs.Lists.{Filled, filled-none, filled-more, filled-all}
 use Rattle.wave.specs.Steps.{levelBelow}
 use Rattle.wave.proofs.Within.{pulse-is, level-left}
-use Rattle.wave.proofs.run.Statement.{statement}
-use Rattle.wave.proofs.run.Tie as tie
+use Rattle.wave.proofs.count_down.Statement.{statement}
+use Rattle.wave.proofs.count_down.Tie as tie
 
 abbrev Inv-loop : tie.InvT-loop
 Inv-loop levels₀ left before i₀ levels i = (i ≤ length levels₀) × Filled (λ k. levelBelow (127 + before + k) left) i levels levels₀
@@ -58,6 +58,6 @@ returns c =
     ∙ rw (drop-length s) (append-nil (tabulate (length s) (λ k. levelBelow (127 + a .before + k) (a .left))))
     ∙ sym (pulse-is (127 + a .before) (a .left) (length s))
 
-pub run-spec : {M : Type 1} → statement M
-run-spec =
+pub count-down-spec : {M : Type 1} → statement M
+count-down-spec =
     tie.close (tie.spec Inv-loop μ-loop loop-holds cast-levels add-levels sub-levels slice-write-levels add-i loop-less loop-again same-length returns)
