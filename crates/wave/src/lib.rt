@@ -111,7 +111,8 @@ fn whole(levels: &mut [u8], pair: Pair, n: usize, long: bool) -> usize
     high_with(pair, more)
 }
 
-// The levels of a whole sub-period of one of the two kinds: no clock is added to it, or one.
+// The levels of a whole sub-period of one of the two kinds: no clock is added to it, or one. They are one run: by `many`, which makes two, a period in one call would
+// take three times as long.
 fn of_kind(levels: &mut [u8], pair: Pair, more: u8) -> usize
     requires { ⌜ length (now levels) ≡ subPeriod ⌝ }
     ensures { λ r. ⌜ (r ≡ min (pair .coarse + more) subPeriod) × (now (levels .exit) ≡ pulse 0 r (length (now (levels .entry)))) ⌝ }
