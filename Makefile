@@ -1,5 +1,5 @@
 # make            the library for this processor, and the program, below target/
-# make check      the gate: everything proved from nothing, tried and compared (some 20 minutes on two cores)
+# make check      the gate: everything proved from nothing, tried and compared (20 to 30 minutes on two cores)
 # make install    puts them, the header, the manual page, the pkg-config file, the guide and the samples below $(DESTDIR)$(PREFIX); builds nothing
 # make uninstall  takes away what install put there
 # make clean      takes away what make built; what is proved stays proved
