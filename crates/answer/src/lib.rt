@@ -1,12 +1,14 @@
 // Answers in the documents' numbers: the struct that crosses to C and that a program's line tells, and how the reader's cases and those of
 // turning an image into a font become it.
+#![tactic(auto)]
+
 ghost use Rattle.std.specs.Prelude.{◌≡◌};
 ghost use Rattle.laws.specs.Said.{accepted as Said·accepted, refused as Said·refused};
 ghost use Rattle.image.specs.Image.{said as Image·said};
-ghost use Rattle.hex.specs.Reading.{said as Hex·said};
+ghost use Rattle.ihex.specs.Reading.{said as Hex·said};
 ghost use Rattle.answer.specs.Told.{told};
 
-use hex::Outcome;
+use ihex::Outcome;
 use image::Turned;
 
 // Number 0 if a call was accepted, else the documents' number of the refusal, with its place; and the value that an accepted call gives.

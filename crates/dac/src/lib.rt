@@ -1,5 +1,7 @@
 // The 14-bit DAC: its running record, the writes to its two registers, and plays, all by value. Every record is taken, also one that no call
 // made; a play of no clocks and a refused play give it back as it came, every other call gives back kept values only.
+#![tactic(auto)]
+
 ghost use Rattle.std.specs.Prelude.{◌≡◌, length};
 ghost use Rattle.wave.specs.Wave.{over};
 ghost use Rattle.dac.specs.Running.{kept_pair, dac_of, kept as kept_of, after_reset, low_written, high_written, playing as playingOf, so_far, after_clocks, levels_of};

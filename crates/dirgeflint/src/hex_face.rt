@@ -1,7 +1,7 @@
 // The character image and its text.
 ghost use Rattle.std.specs.Prelude.{◌≡◌, length};
 ghost use Rattle.image.specs.Image.{answer_of as Image·answerOf, left_of as Image·leftOf};
-ghost use Rattle.hex.specs.Reading.{answer_of as Hex·answerOf, left_of as Hex·leftOf};
+ghost use Rattle.ihex.specs.Reading.{answer_of as Hex·answerOf, left_of as Hex·leftOf};
 ghost use Rattle.answer.specs.Told.{told};
 
 use answer::Answer;
@@ -11,7 +11,7 @@ use answer::Answer;
 pub extern "C" fn dirgeflint_hex_read(text: &[u8], image: &mut [u8]) -> Answer
     ensures { (told result ≡ Hex·answerOf text.now (length image.old)) × (image.new ≡ Hex·leftOf text.now image.old) }
 {
-    answer::read_answer(hex::read(text, image))
+    answer::read_answer(ihex::read(text, image))
 }
 
 // Turns an image of 8,192 bytes into a font of 1,116 rows. Value 0, or number 13.

@@ -14,10 +14,10 @@ use Rattle.units.specs.declared.Dots.{Dots}
 use Rattle.units.specs.declared.Lines.{Lines}
 use Rattle.judging.specs.declared.Settings.{Settings}
 use Rattle.judging.specs.Judging.{answer_of as painting}
-use Rattle.hex.specs.Digits.{digit}
-use Rattle.hex.specs.Lines.{LF, lines, at_end, body_of}
-use Rattle.hex.specs.Records.{colon, belongs, is_shaped, spelled_by, is_end, fault_of}
-use Rattle.hex.specs.Reading.{fault_said, judged, answer_of as reading}
+use Rattle.ihex.specs.Digits.{digit}
+use Rattle.ihex.specs.Lines.{LF, lines, at_end, body_of}
+use Rattle.ihex.specs.Records.{colon, belongs, is_shaped, spelled_by, is_end, fault_of}
+use Rattle.ihex.specs.Reading.{fault_said, judged, answer_of as reading}
 use Rattle.writer.specs.Writing.{answer_of as writing}
 use Rattle.finer.specs.Claims.{PaintLength, WriteLength, ReadLength, PaintPoints, WritePoints, CharacterPoints, ShapePoints}
 use Rattle.finer.specs.Examples.{digit0, G, good, ending, Examples}

@@ -19,11 +19,11 @@ use Rattle.laws.specs.Sums.{sum_all}
 use Rattle.laws.proofs.Both.{fails_unless}
 use Rattle.laws.proofs.Lists.{first_at, first_before}
 use Rattle.laws.proofs.Sums.{sum_take}
-use Rattle.hex.specs.Lines.{lines, onto, at_end, body_of, place_of}
-use Rattle.hex.specs.Records.{belongs, first_bad, has_bad, is_shaped, record_of, records, count_of}
-use Rattle.hex.specs.Reading.{most_text, nth, fault_at, stop_of, fault_said, judged, verdict, answer_of}
-use Rattle.hex.proofs.Lines.{ends_over, body_cuts, body_stops, first_body}
-use Rattle.hex.proofs.Given.{spelled_length}
+use Rattle.ihex.specs.Lines.{lines, onto, at_end, body_of, place_of}
+use Rattle.ihex.specs.Records.{belongs, first_bad, has_bad, is_shaped, record_of, records, count_of}
+use Rattle.ihex.specs.Reading.{most_text, nth, fault_at, stop_of, fault_said, judged, verdict, answer_of}
+use Rattle.ihex.proofs.Lines.{ends_over, body_cuts, body_stops, first_body}
+use Rattle.ihex.proofs.Given.{spelled_length}
 use Rattle.image.specs.Image.{image_bytes}
 use Rattle.finer.specs.Claims.{IsFirstBad, CharacterPoints, IsNoRecord, ShapePoints}
 use Rattle.finer.proofs.Texts.{record_at_law, fault_none, fault_other}

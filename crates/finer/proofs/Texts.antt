@@ -11,10 +11,10 @@ use lib.ListN.{length, get_or, take, get_or-map}
 use Rattle.laws.specs.Pick.{pick}
 use Rattle.laws.specs.Said.{accepted, refused}
 use Rattle.image.specs.Image.{image_bytes}
-use Rattle.hex.specs.Lines.{lines, body_of, place_of}
-use Rattle.hex.specs.Records.{first_bad, has_bad, spelled_by, record_of, records, is_end, count_of, fault_of, sum_of, type_of, address_of, length_of, fresh_in}
-use Rattle.hex.specs.Reading.{most_text, nth, fault_at, stop_of, fault_said, judged, verdict, answer_of}
-use Rattle.hex.proofs.Passed.{record_nil}
+use Rattle.ihex.specs.Lines.{lines, body_of, place_of}
+use Rattle.ihex.specs.Records.{first_bad, has_bad, spelled_by, record_of, records, is_end, count_of, fault_of, sum_of, type_of, address_of, length_of, fresh_in}
+use Rattle.ihex.specs.Reading.{most_text, nth, fault_at, stop_of, fault_said, judged, verdict, answer_of}
+use Rattle.ihex.proofs.Passed.{record_nil}
 use Rattle.finer.specs.Claims.{ReadLength}
 
 -- the record of a line

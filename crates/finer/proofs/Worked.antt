@@ -3,10 +3,10 @@
 use mathlib.Core.Path.{refl}
 use Rattle.laws.specs.Lists.{tabulate, first_of}
 use Rattle.laws.specs.Sums.{sum_all}
-use Rattle.hex.specs.Digits.{digit}
-use Rattle.hex.specs.Lines.{lines, at_end, body_of}
-use Rattle.hex.specs.Records.{belongs, is_shaped, spelled_by, is_end, fault_of}
-use Rattle.hex.specs.Reading.{fault_said, judged, answer_of}
+use Rattle.ihex.specs.Digits.{digit}
+use Rattle.ihex.specs.Lines.{lines, at_end, body_of}
+use Rattle.ihex.specs.Records.{belongs, is_shaped, spelled_by, is_end, fault_of}
+use Rattle.ihex.specs.Reading.{fault_said, judged, answer_of}
 use Rattle.finer.specs.Examples.{Examples}
 
 pub examples : Examples

@@ -7,9 +7,9 @@ use Rattle.units.specs.declared.Dots.{Dots}
 use Rattle.units.specs.declared.Lines.{Lines}
 use Rattle.judging.specs.declared.Settings.{Settings}
 use Rattle.judging.specs.Judging.{answer_of as painting}
-use Rattle.hex.specs.Lines.{lines, at_end, body_of, place_of}
-use Rattle.hex.specs.Records.{records, belongs, has_bad, is_shaped}
-use Rattle.hex.specs.Reading.{most_text, nth, stop_of, answer_of as reading}
+use Rattle.ihex.specs.Lines.{lines, at_end, body_of, place_of}
+use Rattle.ihex.specs.Records.{records, belongs, has_bad, is_shaped}
+use Rattle.ihex.specs.Reading.{most_text, nth, stop_of, answer_of as reading}
 use Rattle.writer.specs.Writing.{answer_of as writing}
 
 -- 4 is said of a font's length alone, and 7 of a text's: no other fault of a font or of a text is told by them.

@@ -4,9 +4,9 @@
 use Rattle.std.specs.Prelude.{ℕ, ◌≡◌, List, [], ◌∷◌, ◌++◌, map}
 use Rattle.laws.specs.Said.{Said, refused}
 use Rattle.image.specs.Image.{image_bytes}
-use Rattle.hex.specs.Lines.{LF, CR}
-use Rattle.hex.specs.Records.{colon}
-use Rattle.hex.specs.Reading.{answer_of}
+use Rattle.ihex.specs.Lines.{LF, CR}
+use Rattle.ihex.specs.Records.{colon}
+use Rattle.ihex.specs.Reading.{answer_of}
 
 -- the digits 0 and 1, and the letters A, F and G
 abbrev pub digit0 : ℕ

@@ -1,4 +1,6 @@
 // The sizes of a font, 62 cells of 18 rows of 12 bits, and the tests of rows that painter, writer and packer share.
+#![tactic(auto)]
+
 ghost use Rattle.std.specs.Prelude.{◌≡◌, true, ℕ, ◌≤◌};
 ghost use Rattle.laws.specs.Within.{within, first_row_above};
 

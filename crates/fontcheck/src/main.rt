@@ -1,6 +1,8 @@
 // Reads a text from standard input and prints the line for it. 65,536 bytes are enough to know the line, since a text of more than 65,535 is
 // refused whole. Where the input cannot be read, or the line cannot be written, standard error says so, and no line is made up. A program has
 // no exit status to give.
+#![tactic(auto)]
+
 ghost use Rattle.std.specs.Prelude.{◌≡◌, ◌≤◌, length};
 
 use libc::{STDERR_FILENO, STDIN_FILENO, STDOUT_FILENO};

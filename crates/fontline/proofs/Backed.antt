@@ -12,7 +12,7 @@ use lib.Seq.{set_at, append_snoc, drop-cons, drop-length}
 use borrow.Author.Tests.{lt-ltb, le-ltb, ne_eqb}
 use Rattle.laws.specs.Pick.{pick}
 use Rattle.laws.specs.Said.{Said, accepted, refused}
-use Rattle.hex.specs.Lines.{LF}
+use Rattle.ihex.specs.Lines.{LF}
 use Rattle.fontline.specs.Lines.{line_with, line_for, digits_before, decimal, cells_bytes, refused_word, at_word, room}
 use Rattle.fontline.specs.Steps.{ByteBefore, NumberBefore, WordsBefore}
 use Rattle.fontline.specs.declared.Line.{Line}

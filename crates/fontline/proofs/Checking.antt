@@ -11,8 +11,8 @@ use Rattle.laws.proofs.Said.{number_of}
 use Rattle.font.specs.Font.{font_rows}
 use Rattle.image.specs.Image.{image_bytes}
 use Rattle.image.specs.Image.{answer_of as turning}
-use Rattle.hex.specs.Reading.{image_in, left_of}
-use Rattle.hex.specs.Reading.{answer_of as reading}
+use Rattle.ihex.specs.Reading.{image_in, left_of}
+use Rattle.ihex.specs.Reading.{answer_of as reading}
 use Rattle.answer.specs.Told.{told}
 use Rattle.answer.specs.declared.Answer.{Answer}
 use Rattle.fontline.specs.Lines.{checked, line_for, line_with}

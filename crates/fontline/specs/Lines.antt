@@ -7,9 +7,9 @@ use Rattle.laws.specs.Said.{Said}
 use Rattle.font.specs.Font.{font_rows}
 use Rattle.image.specs.Image.{image_bytes}
 use Rattle.image.specs.Image.{answer_of as turning}
-use Rattle.hex.specs.Lines.{LF}
-use Rattle.hex.specs.Reading.{image_in}
-use Rattle.hex.specs.Reading.{answer_of as reading}
+use Rattle.ihex.specs.Lines.{LF}
+use Rattle.ihex.specs.Reading.{image_in}
+use Rattle.ihex.specs.Reading.{answer_of as reading}
 use Rattle.fontline.specs.declared.Line.{Line}
 
 -- what the two steps say: the first that refuses, else the count that reading gives

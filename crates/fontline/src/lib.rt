@@ -1,7 +1,9 @@
 // The line that fontcheck prints for a text.
+#![tactic(auto)]
+
 ghost use Rattle.std.specs.Prelude.{◌≡◌, [], ◌∷◌, ◌<◌, ◌≤◌, length};
 ghost use Rattle.laws.specs.Said.{accepted, refused};
-ghost use Rattle.hex.specs.Lines.{LF as Hex-as-LF};
+ghost use Rattle.ihex.specs.Lines.{LF as Hex-as-LF};
 ghost use Rattle.fontline.specs.Lines.{checked, line_for, line_with, room};
 ghost use Rattle.fontline.specs.Steps.{ByteBefore, NumberBefore, WordsBefore};
 
@@ -21,7 +23,7 @@ pub fn check(text: &[u8]) -> Line
 {
     let mut image = [0u8; image::IMAGE_BYTES];
     let mut font = [0u16; font::FONT_ROWS];
-    let read = answer::read_answer(hex::read(text, &mut image));
+    let read = answer::read_answer(ihex::read(text, &mut image));
     if read.number != 0 {
         return refused_line(read.number, read.place);
     }
@@ -54,7 +56,7 @@ fn ended() -> Line
 {
     let mut bytes = [0u8; ROOM];
     let start = ROOM - 1;
-    bytes[start] = hex::LF;
+    bytes[start] = ihex::LF;
     Line { bytes, start }
 }
 

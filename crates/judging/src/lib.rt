@@ -1,4 +1,6 @@
 // What is handed to the painter, and what of it is refused: the first number that applies of 1, 2, 3, 4, 18, 5 and 6, in this order.
+#![tactic(auto)]
+
 ghost use Rattle.std.specs.Prelude.{◌≡◌};
 ghost use Rattle.judging.specs.Judging.{answer_of, said, in_range};
 

@@ -26,7 +26,7 @@ pub within_first : (most : ℕ) (l : List ℕ) → within most l ≡ eqb (first_
 unfolding within first_of
 within_first most [] = refl
 within_first most (a ∷ l) =
-    ⊎_elim (λ h. rw (le-leb a most h, le-ltb most a h, compare.suc_suc (first_row_above most l) (length l)) (within_first most l)) (λ h. rw (lt-leb a most h, lt-ltb most a h, ne_eqb 0 (length (a ∷ l)) (omega arith))) (split a most)
+    ⊎_elim (λ h. rw (le-leb a most h, le-ltb most a h, compare.suc-suc (first_row_above most l) (length l)) (within_first most l)) (λ h. rw (lt-leb a most h, lt-ltb most a h, ne_eqb 0 (length (a ∷ l)) (omega arith))) (split a most)
 
 -- the bits of two numbers together are at least each of them
 pub or_above : (a b most : ℕ) → bit_or a b ≤ most → (a ≤ most) × (b ≤ most)

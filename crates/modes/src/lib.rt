@@ -1,4 +1,6 @@
 // The table of modes, and blinking: what shows where no character is lit, and when a blinking character is lit.
+#![tactic(auto)]
+
 ghost use Rattle.std.specs.Prelude.{◌≡◌, ◌%◌, ◌≤◌, ◌<◌};
 ghost use Rattle.modes.specs.Modes.{ground_byte, divisor_of, lit_in};
 

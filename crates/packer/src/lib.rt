@@ -1,4 +1,6 @@
 // The packer: drawn glyphs into the cells of a font, glyphs that agree in every dot into one cell.
+#![tactic(auto)]
+
 ghost use Rattle.std.specs.Prelude.{◌≡◌, ℕ, ◌+◌, ◌-◌, ◌<◌, ◌≤◌, ◌++◌, length, drop, slice_index};
 ghost use Rattle.laws.specs.Lists.{tabulate};
 ghost use Rattle.font.specs.Font.{rows_of_cell, font_rows};

@@ -1,1 +1,2 @@
 // A theorem alone: the painted line that document 01 works through.
+#![tactic(auto)]

@@ -1,5 +1,7 @@
 // The write port of the display's RAM: an address, an attribute and a character register, and 64 words.
 // A port is given and comes back by value. Every call leaves kept bits only, in each register and each word, whatever was handed over.
+#![tactic(auto)]
+
 ghost use Rattle.std.specs.Prelude.{◌≡◌, map};
 ghost use Rattle.port.specs.Port.{kept_word, kept_of, fresh_port, address_written, attribute_written, character_written};
 

@@ -1,4 +1,6 @@
 // The eight small pulse outputs: the level of a channel at one clock of its period.
+#![tactic(auto)]
+
 ghost use Rattle.std.specs.Prelude.{◌≡◌};
 ghost use Rattle.pulse.specs.Pulse.{answer_of, said, period_of, kept_of};
 

@@ -15,11 +15,11 @@ use Rattle.laws.proofs.Lists.{length_tabulate, get_d_tabulate}
 use Rattle.font.specs.Font.{is_font}
 use Rattle.image.specs.Image.{image_of}
 use Rattle.image.specs.Image as turning
-use Rattle.hex.specs.Digits.{digit}
-use Rattle.hex.specs.Lines.{lines, at_end, body_of}
-use Rattle.hex.specs.Records.{belongs, is_shaped, spelled_by, record_of, address_of, byte_in}
-use Rattle.hex.specs.Reading.{nth, image_in}
-use Rattle.hex.specs.Reading as reading
+use Rattle.ihex.specs.Digits.{digit}
+use Rattle.ihex.specs.Lines.{lines, at_end, body_of}
+use Rattle.ihex.specs.Records.{belongs, is_shaped, spelled_by, record_of, address_of, byte_in}
+use Rattle.ihex.specs.Reading.{nth, image_in}
+use Rattle.ihex.specs.Reading as reading
 use Rattle.writer.specs.Text.{digit_text, record_bytes, record_text, record_in, end_record, text_of}
 use Rattle.roundtrip.specs.Form.{is_upper, spelled, IsDataLine, HasWritersForm}
 use Rattle.roundtrip.specs.RoundTrip.{IsImage, TextReadsBack, FontComesBack, FormIsTheTexts, OneTextAnImage, WritingGivesTheText, RewritingGivesTheText, TurnedImageIsAFonts}

@@ -18,10 +18,10 @@ use Rattle.laws.specs.Sums.{sum_all}
 use Rattle.laws.proofs.Both.{both_parts}
 use Rattle.laws.proofs.Lists.{length_tabulate, get_d_tabulate, is_tabulate, tabulate_same, tabulate_more}
 use Rattle.laws.proofs.Sums.{sum_last}
-use Rattle.hex.specs.Digits.{among, digit, byte_at}
-use Rattle.hex.specs.Lines.{lines, onto, LF}
-use Rattle.hex.specs.Records.{colon, sum_of}
-use Rattle.hex.specs.Reading.{nth}
+use Rattle.ihex.specs.Digits.{among, digit, byte_at}
+use Rattle.ihex.specs.Lines.{lines, onto, LF}
+use Rattle.ihex.specs.Records.{colon, sum_of}
+use Rattle.ihex.specs.Reading.{nth}
 use Rattle.writer.specs.Text.{digit_text, bytes_text, checksum, record_bytes, record_text, bytes_in, record_in, end_record, text_of}
 use Rattle.writer.proofs.Lists.{flat_append, flat_one}
 use Rattle.writer.proofs.Spelling.{bytes_length, end_line}

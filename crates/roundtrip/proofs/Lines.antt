@@ -14,10 +14,10 @@ use Rattle.laws.specs.Pick.{pick}
 use Rattle.laws.proofs.Tests.{upto_at}
 use Rattle.laws.specs.Lists.{tabulate}
 use Rattle.laws.proofs.Lists.{is_tabulate}
-use Rattle.hex.specs.Digits.{digit, byte_at}
-use Rattle.hex.specs.Lines.{lines, at_end, body_of, LF}
-use Rattle.hex.specs.Records.{colon, belongs, is_shaped, spelled_by, record_of, length_of}
-use Rattle.hex.proofs.Shape.{first_colon, later_digit, each_belongs, fits_shaped}
+use Rattle.ihex.specs.Digits.{digit, byte_at}
+use Rattle.ihex.specs.Lines.{lines, at_end, body_of, LF}
+use Rattle.ihex.specs.Records.{colon, belongs, is_shaped, spelled_by, record_of, length_of}
+use Rattle.ihex.proofs.Shape.{first_colon, later_digit, each_belongs, fits_shaped}
 use Rattle.writer.specs.Text.{digit_text, bytes_text, record_text}
 use Rattle.writer.proofs.Spelling.{bytes_length}
 

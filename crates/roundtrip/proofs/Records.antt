@@ -15,9 +15,9 @@ use Rattle.laws.proofs.Lists.{length_tabulate, get_d_tabulate, is_tabulate, tabu
 use Rattle.laws.specs.Sums.{sum_all}
 use Rattle.laws.proofs.Sums.{sum_last}
 use Rattle.laws.proofs.Placing.{span_in, span_after}
-use Rattle.hex.specs.Records.{length_of, address_of, type_of, sum_of, is_end, gives, data_at, byte_in, is_given, count_of, fault_of}
-use Rattle.hex.specs.Reading.{nth, fault_at, stops_at, stop_of, judged}
-use Rattle.hex.proofs.Faults.{is_end_law, other_type, fault_end, fault_none}
+use Rattle.ihex.specs.Records.{length_of, address_of, type_of, sum_of, is_end, gives, data_at, byte_in, is_given, count_of, fault_of}
+use Rattle.ihex.specs.Reading.{nth, fault_at, stops_at, stop_of, judged}
+use Rattle.ihex.proofs.Faults.{is_end_law, other_type, fault_end, fault_none}
 use Rattle.writer.specs.Text.{checksum, record_bytes, bytes_in, record_in, end_record, records_of}
 use Rattle.roundtrip.proofs.Lines.{Small, IsRecord}
 

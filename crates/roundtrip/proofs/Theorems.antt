@@ -19,11 +19,11 @@ use Rattle.image.specs.Image.{image_of, font_of, half_at, due_at, has_row, cell_
 use Rattle.image.specs.Image as turning
 use Rattle.laws.proofs.Lists.{length_tabulate, tabulate_same}
 use Rattle.image.proofs.Turning.{font_row_law, font_again, image_accepted, image_again, gives_font}
-use Rattle.hex.specs.Lines.{lines}
-use Rattle.hex.specs.Records.{record_of, records, gives, data_at, byte_in}
-use Rattle.hex.specs.Reading.{image_in}
-use Rattle.hex.specs.Reading as reading
-use Rattle.hex.proofs.Given.{record_small}
+use Rattle.ihex.specs.Lines.{lines}
+use Rattle.ihex.specs.Records.{record_of, records, gives, data_at, byte_in}
+use Rattle.ihex.specs.Reading.{image_in}
+use Rattle.ihex.specs.Reading as reading
+use Rattle.ihex.proofs.Given.{record_small}
 use Rattle.writer.specs.Text.{record_text, record_in, end_record, records_of, text_of}
 use Rattle.writer.specs.Writing as writing
 use Rattle.writer.proofs.Spelling.{text_length}

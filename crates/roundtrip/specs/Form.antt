@@ -4,10 +4,10 @@
 -- Assumes nothing.
 use Rattle.std.specs.Prelude.{ℕ, ◌+◌, ◌*◌, ◌<◌, ◌≡◌, Bool, true, List, [], ◌∷◌, length, get_or}
 use Rattle.laws.specs.Pick.{pick}
-use Rattle.hex.specs.Digits.{among, bytes_from}
-use Rattle.hex.specs.Lines.{lines, LF}
-use Rattle.hex.specs.Records.{colon, frame, length_of, address_of, type_of, data_type, sum_of}
-use Rattle.hex.specs.Reading.{nth}
+use Rattle.ihex.specs.Digits.{among, bytes_from}
+use Rattle.ihex.specs.Lines.{lines, LF}
+use Rattle.ihex.specs.Records.{colon, frame, length_of, address_of, type_of, data_type, sum_of}
+use Rattle.ihex.specs.Reading.{nth}
 
 -- 0 to 9, or A to F
 abbrev pub is_upper : ℕ → Bool

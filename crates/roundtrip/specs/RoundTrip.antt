@@ -7,8 +7,8 @@ use Rattle.laws.specs.Said.{accepted}
 use Rattle.font.specs.Font.{is_font, font_rows}
 use Rattle.image.specs.Image.{image_bytes, image_of, font_of}
 use Rattle.image.specs.Image as turning
-use Rattle.hex.specs.Reading.{image_in}
-use Rattle.hex.specs.Reading as reading
+use Rattle.ihex.specs.Reading.{image_in}
+use Rattle.ihex.specs.Reading as reading
 use Rattle.writer.specs.Text.{text_of, text_bytes}
 use Rattle.writer.specs.Writing as writing
 use Rattle.roundtrip.specs.Form.{HasWritersForm}

@@ -1,4 +1,6 @@
 // A cell's row of 12 bits laid over dots of a line, with the shadow that falls on it.
+#![tactic(auto)]
+
 ghost use Rattle.std.specs.Prelude.{◌≡◌, ◌+◌, ◌*◌, ◌≤◌, length};
 ghost use Rattle.laws.specs.Lines.{overlay};
 ghost use Rattle.laws.specs.Placing.{patched};

@@ -1,5 +1,7 @@
 // How the cases that only the C face tells become the struct that crosses to C: of a level, a play, a painting, a writing and a packing. Those of a reading and
 // of an image turned into a font, which the program tells too, stand in `answer`.
+#![tactic(auto)]
+
 ghost use Rattle.std.specs.Prelude.{◌≡◌};
 ghost use Rattle.pulse.specs.Pulse.{said as Pulse·said};
 ghost use Rattle.dac.specs.Play.{said as Dac·said};

@@ -10,10 +10,10 @@ use native.Mathlib.Decide.{dec_lt}
 use native.Mathlib.Omega.{arith}
 use lib.ListN.{length, get_or, drop, length-append, length-map, get_or-append, get_or-map}
 use lib.Seq.{ext_get_or, take_at, drop_at}
-use Rattle.hex.specs.Lines.{Plain, lines, at_end, body_of}
-use Rattle.hex.specs.Records.{records, record_of}
-use Rattle.hex.specs.Steps.{end_length}
-use Rattle.hex.proofs.Lines.{lines_nil, body_cut, first_cut}
+use Rattle.ihex.specs.Lines.{Plain, lines, at_end, body_of}
+use Rattle.ihex.specs.Records.{records, record_of}
+use Rattle.ihex.specs.Steps.{end_length}
+use Rattle.ihex.proofs.Lines.{lines_nil, body_cut, first_cut}
 use Rattle.textlaws.specs.Alike.{AlikeBodies, IsLineEnd, Line, whole, written, no_line, Ended}
 use Rattle.textlaws.specs.Laws.{AlikeRecords, AlikeSame, EndedBody, WrittenAlike}
 use Rattle.textlaws.proofs.Same.{alike_spells, same_verdict, same_image}

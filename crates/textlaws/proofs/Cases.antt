@@ -13,10 +13,10 @@ use Rattle.laws.specs.Said.{Said, accepted, refused}
 use Rattle.laws.specs.Lists.{tabulate, first_of}
 use Rattle.laws.specs.Sums.{sum_all}
 use Rattle.laws.proofs.Lists.{get_d_tabulate}
-use Rattle.hex.specs.Digits.{digit}
-use Rattle.hex.specs.Lines.{LF, CR, lines, at_end, body_of}
-use Rattle.hex.specs.Records.{belongs, is_shaped, spelled_by, records, is_end, gives, byte_in, is_given, fault_of}
-use Rattle.hex.specs.Reading.{fault_said, judged, image_in}
+use Rattle.ihex.specs.Digits.{digit}
+use Rattle.ihex.specs.Lines.{LF, CR, lines, at_end, body_of}
+use Rattle.ihex.specs.Records.{belongs, is_shaped, spelled_by, records, is_end, gives, byte_in, is_given, fault_of}
+use Rattle.ihex.specs.Reading.{fault_said, judged, image_in}
 use Rattle.textlaws.specs.Alike.{Line}
 use Rattle.textlaws.specs.Laws.{SameVerdict, SameImage, CasesAlike, AlikeSpells, AlikeRecords, AlikeSame, EndedBody, WrittenAlike, OrderSame}
 

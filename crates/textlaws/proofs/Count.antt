@@ -13,9 +13,9 @@ use Rattle.laws.specs.Lists.{tabulate}
 use Rattle.laws.specs.Sums.{sum_all}
 use Rattle.laws.proofs.Lists.{tabulate_same}
 use Rattle.laws.proofs.Sums.{sum_both, sum_none, sum_span}
-use Rattle.hex.specs.Lines.{lines}
-use Rattle.hex.specs.Records.{records, length_of, address_of, gives, is_given, count_of}
-use Rattle.hex.specs.Reading.{nth}
+use Rattle.ihex.specs.Lines.{lines}
+use Rattle.ihex.specs.Records.{records, length_of, address_of, gives, is_given, count_of}
+use Rattle.ihex.specs.Reading.{nth}
 use Rattle.textlaws.specs.Laws.{Reordered, OrderSame}
 use Rattle.textlaws.proofs.Order.{Apart, Good, good_of, good_judged, reordered_good, order_verdict, none_given, given_none, not_there, from_within}
 

@@ -19,11 +19,11 @@ use Rattle.laws.specs.Lists.{tabulate, first_of}
 use Rattle.laws.proofs.Lists.{first_is, first_none, first_before, first_at, first_most, tabulate_same}
 use Rattle.laws.proofs.Placing.{span_has_law, span_in}
 use Rattle.laws.proofs.Said.{number_of}
-use Rattle.hex.specs.Lines.{lines, body_of, place_of}
-use Rattle.hex.specs.Records.{records, length_of, address_of, type_of, sum_of, is_end, gives, data_at, byte_in, is_given, fresh_in, count_of, fault_of}
-use Rattle.hex.specs.Reading.{nth, fault_at, stops_at, stop_of, fault_said, judged, verdict, image_in}
-use Rattle.hex.proofs.Faults.{fault_told}
-use Rattle.hex.proofs.Given.{in_none}
+use Rattle.ihex.specs.Lines.{lines, body_of, place_of}
+use Rattle.ihex.specs.Records.{records, length_of, address_of, type_of, sum_of, is_end, gives, data_at, byte_in, is_given, fresh_in, count_of, fault_of}
+use Rattle.ihex.specs.Reading.{nth, fault_at, stops_at, stop_of, fault_said, judged, verdict, image_in}
+use Rattle.ihex.proofs.Faults.{fault_told}
+use Rattle.ihex.proofs.Given.{in_none}
 use Rattle.textlaws.specs.Laws.{Reordered}
 
 -- a record that is good by itself

@@ -14,11 +14,11 @@ use Rattle.laws.specs.Said.{accepted, refused}
 use Rattle.laws.specs.Lists.{tabulate, first_of}
 use Rattle.laws.proofs.Lists.{tabulate_same, first_same}
 use Rattle.laws.proofs.Said.{number_of}
-use Rattle.hex.specs.Digits.{digit, byte_at}
-use Rattle.hex.specs.Lines.{lines, body_of, place_of}
-use Rattle.hex.specs.Records.{belongs, first_bad, records, spelled_by, is_shaped, byte_in, count_of}
-use Rattle.hex.specs.Reading.{nth, fault_at, stop_of, fault_said, judged}
-use Rattle.hex.proofs.Faults.{fault_told}
+use Rattle.ihex.specs.Digits.{digit, byte_at}
+use Rattle.ihex.specs.Lines.{lines, body_of, place_of}
+use Rattle.ihex.specs.Records.{belongs, first_bad, records, spelled_by, is_shaped, byte_in, count_of}
+use Rattle.ihex.specs.Reading.{nth, fault_at, stop_of, fault_said, judged}
+use Rattle.ihex.proofs.Faults.{fault_told}
 use Rattle.textlaws.specs.Alike.{AlikeBodies}
 use Rattle.textlaws.specs.Laws.{SameVerdict, SameImage, CasesAlike, AlikeSpells}
 

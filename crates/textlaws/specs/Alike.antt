@@ -3,8 +3,8 @@
 -- Assumes nothing.
 use Rattle.std.specs.Prelude.{ℕ, ◌+◌, ◌<◌, ◌≡◌, ◌⊎◌, length, get_or}
 use mathlib.Core.List.{List, [], ◌∷◌, ◌++◌, flat_map}
-use Rattle.hex.specs.Digits.{digit}
-use Rattle.hex.specs.Lines.{LF, CR, Plain, lines, body_of}
+use Rattle.ihex.specs.Digits.{digit}
+use Rattle.ihex.specs.Lines.{LF, CR, Plain, lines, body_of}
 
 -- lines without their ends that are the same but for the case of digits: after the first byte, each two are one digit, or both are none
 pub record AlikeBodies (body body' : List ℕ) : Type 0 where

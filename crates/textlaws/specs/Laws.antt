@@ -4,10 +4,10 @@
 -- Assumes nothing.
 use Rattle.std.specs.Prelude.{ℕ, ◌+◌, ◌<◌, ◌≡◌, true, List, ◌++◌, length, get_or}
 use Rattle.laws.specs.Said.{accepted}
-use Rattle.hex.specs.Digits.{digit}
-use Rattle.hex.specs.Lines.{Plain, at_end, body_of}
-use Rattle.hex.specs.Records.{records, spelled_by}
-use Rattle.hex.specs.Reading.{nth, verdict, image_in}
+use Rattle.ihex.specs.Digits.{digit}
+use Rattle.ihex.specs.Lines.{Plain, at_end, body_of}
+use Rattle.ihex.specs.Records.{records, spelled_by}
+use Rattle.ihex.specs.Reading.{nth, verdict, image_in}
 use Rattle.textlaws.specs.Alike.{AlikeBodies, AlikeTexts, Line, written, no_line, Ended}
 
 -- Of two texts with the same records, where one is accepted so is the other, unless it is too long, with the same count.

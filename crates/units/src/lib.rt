@@ -1,4 +1,6 @@
 // Dots, counted in OSD clocks, and scan lines: two types, so that one is never passed for the other.
+#![tactic(auto)]
+
 #[derive(Drop)]
 pub struct Dots(pub usize);
 

@@ -1,4 +1,6 @@
 // The levels that a pair gives over a period of the DAC. A period is 128 sub-periods of 128 clocks, and each sub-period is high first and then low.
+#![tactic(auto)]
+
 ghost use Rattle.std.specs.Prelude.{◌≡◌, ◌+◌, ◌-◌, ◌%◌, ◌<◌, ◌≤◌, min, length};
 ghost use Rattle.laws.specs.Sums.{sum_all};
 ghost use Rattle.wave.specs.Wave.{period, sub_period, sub_periods, added as addedOf, wave_in, laid};
@@ -17,7 +19,7 @@ const LONG: usize = 1024;
 
 // The halves, of 7 bits each, as the DAC keeps them. Of larger ones, a coarse half makes every clock high, and bit 7 of a fine half counts for nothing.
 #[repr(C)]
-#[derive(Drop)]
+#[derive(Clone, Copy)]
 pub struct Pair {
     pub coarse: u8,
     pub fine: u8,

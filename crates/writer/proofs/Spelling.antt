@@ -7,9 +7,9 @@ use lib.Seq.{sets, length-sets, sets-eq}
 use Rattle.laws.specs.Lists.{tabulate}
 use Rattle.laws.proofs.Lists.{length_tabulate}
 use Rattle.laws.specs.Sums.{sum_all}
-use Rattle.hex.specs.Lines.{LF}
-use Rattle.hex.specs.Records.{colon, sum_of}
-use Rattle.hex.proofs.Steps.{sum_more}
+use Rattle.ihex.specs.Lines.{LF}
+use Rattle.ihex.specs.Records.{colon, sum_of}
+use Rattle.ihex.proofs.Steps.{sum_more}
 use Rattle.image.specs.Image.{image_of, due_at}
 use Rattle.writer.specs.Text.{digit_text, byte_text, bytes_text, checksum, record_bytes, record_text, bytes_in, record_in, end_record, text_of}
 use Rattle.writer.specs.Steps.{front_text, back_text, DataPut, count_of_rows}

@@ -6,8 +6,8 @@ use Rattle.std.proofs.lemmas.List.Edits.{sets}
 use Rattle.laws.specs.Pick.{pick}
 use Rattle.font.specs.Font.{font_cells, rows_of_cell, is_font}
 use Rattle.image.specs.Image.{half_bytes, image_of}
-use Rattle.hex.specs.Lines.{LF}
-use Rattle.hex.specs.Records.{colon, sum_of}
+use Rattle.ihex.specs.Lines.{LF}
+use Rattle.ihex.specs.Records.{colon, sum_of}
 use Rattle.writer.specs.Text.{byte_text, bytes_text, bytes_in, checksum, record_data, data_records, text_bytes}
 
 -- a record's line up to its data, and from its checksum on

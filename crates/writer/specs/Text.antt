@@ -5,8 +5,8 @@ use Rattle.std.specs.Prelude.{ℕ, ◌+◌, ◌-◌, ◌*◌, ◌/◌, ◌%◌, 
 use mathlib.Core.List.{flat_map}
 use Rattle.laws.specs.Pick.{pick}
 use Rattle.laws.specs.Lists.{tabulate}
-use Rattle.hex.specs.Lines.{LF}
-use Rattle.hex.specs.Records.{colon, data_type, end_type, sum_of}
+use Rattle.ihex.specs.Lines.{LF}
+use Rattle.ihex.specs.Records.{colon, data_type, end_type, sum_of}
 
 -- the character of a digit: 0 to 9, then A to F
 abbrev pub digit_text : ℕ → ℕ

@@ -1,4 +1,6 @@
 // The writer of a font's image as Intel's hexadecimal object format.
+#![tactic(auto)]
+
 ghost use Rattle.std.specs.Prelude.{◌≡◌, ◌+◌, ◌*◌, ◌<◌, ◌≤◌, length};
 ghost use Rattle.std.proofs.lemmas.List.Edits.{sets};
 ghost use Rattle.font.specs.Font.{most_row};
@@ -64,8 +66,8 @@ fn put_text(font: &[u16], text: &mut [u8])
         n += 1;
     }
     let at = RECORD_TEXT * RECORDS;
-    put_front(text, at, 0, 0, 0, hex::END);
-    put_back(text, at + FRONT_TEXT, hex::END);
+    put_front(text, at, 0, 0, 0, ihex::END);
+    put_back(text, at + FRONT_TEXT, ihex::END);
 }
 
 fn put_record(font: &[u16], n: usize, text: &mut [u8])
@@ -77,7 +79,7 @@ fn put_record(font: &[u16], n: usize, text: &mut [u8])
     let count = RECORD_BYTES as u8;
     let high = (address / 256) as u8;
     let low = (address % 256) as u8;
-    put_front(text, at, count, high, low, hex::DATA);
+    put_front(text, at, count, high, low, ihex::DATA);
     let data = put_data(font, n, text, at + FRONT_TEXT);
     let sum = std::num::wrapping_add_u8(std::num::wrapping_add_u8(data, count + high), low);
     put_back(text, at + FRONT_TEXT + 2 * RECORD_BYTES, sum);
@@ -88,7 +90,7 @@ fn put_front(text: &mut [u8], at: usize, count: u8, high: u8, low: u8, kind: u8)
     requires { at + front_bytes ≤ length text.old }
     ensures { text.new ≡ sets text.old at (front_text count high low kind) }
 {
-    text[at] = hex::COLON;
+    text[at] = ihex::COLON;
     put_byte(text, at + 1, count);
     put_byte(text, at + 3, high);
     put_byte(text, at + 5, low);
@@ -101,7 +103,7 @@ fn put_back(text: &mut [u8], at: usize, sum: u8)
     ensures { text.new ≡ sets text.old at (back_text sum) }
 {
     put_byte(text, at, std::num::wrapping_sub_u8(0, sum));
-    text[at + 2] = hex::LF;
+    text[at + 2] = ihex::LF;
 }
 
 // The data of record n, with its eight-bit sum, carries dropped: first the bytes that hold rows, then those that hold none.

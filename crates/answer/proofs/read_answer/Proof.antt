@@ -1,7 +1,7 @@
 -- In each arm the struct tells what is said of the case that was met.
 -- Assumes nothing.
-use Rattle.hex.specs.Reading.{said}
-use Rattle.hex.specs.declared.Outcome.TheVariants.{Done, NoRoom, TooLong, BadCharacter, BadShape, BadSum, BadType, PastEnd, GivenTwice, BadEnd}
+use Rattle.ihex.specs.Reading.{said}
+use Rattle.ihex.specs.declared.Outcome.TheVariants.{Done, NoRoom, TooLong, BadCharacter, BadShape, BadSum, BadType, PastEnd, GivenTwice, BadEnd}
 use borrow.Author.Rules.{rules}
 use Rattle.answer.proofs.Tells.{tells}
 use Rattle.answer.proofs.read_answer.Statement.{statement}

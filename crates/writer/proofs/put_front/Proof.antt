@@ -1,7 +1,7 @@
 -- `writer::put_front`. The colon and four bytes in turn are the front.
 -- Assumes nothing.
 use Rattle.std.proofs.Common.{arith, length-set}
-use Rattle.hex.specs.Records.{colon}
+use Rattle.ihex.specs.Records.{colon}
 use Rattle.writer.proofs.Spelling.{front_stored}
 use Rattle.writer.proofs.put_front.Statement.{statement}
 use Rattle.writer.proofs.put_front.Tie as tie

@@ -1,0 +1,14 @@
+-- `wave::of_kind` meets its contract: it is high for as many clocks as it answers.
+-- Assumes nothing.
+use mathlib.Core.Path.{◌∙◌}
+use native.Mathlib.Omega.{arith}
+use lib.ListN.{length}
+use Rattle.wave.proofs.Within.{same_turn}
+use Rattle.wave.proofs.of_kind.Goals as goal
+
+pub returns : goal.returns
+returns c =
+    let a = c.args in
+    let high = c.high_with-high in
+    let laid = c.count_down.ensures in
+    (high.ensures, laid ∙ same_turn 127 _ 0 high.result (length a.levels.now) (omega arith))
