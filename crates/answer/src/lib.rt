@@ -13,7 +13,7 @@ use image::Turned;
 
 // Number 0 if a call was accepted, else the documents' number of the refusal, with its place; and the value that an accepted call gives.
 #[repr(C)]
-#[derive(Drop)]
+#[derive(Clone, Copy)]
 pub struct Answer {
     pub number: u32,
     pub place: u32,

@@ -17,7 +17,7 @@ const HALF: u8 = 128;
 const COUNTS: usize = 16384;
 
 #[repr(C)]
-#[derive(Drop)]
+#[derive(Clone, Copy)]
 pub struct Dac {
     // Clocks played of the period under way.
     pub position: u16,
@@ -30,7 +30,7 @@ pub struct Dac {
     pub high: u16,
 }
 
-#[derive(Drop)]
+#[derive(Clone, Copy)]
 pub enum Played {
     // The record's count of high clocks after the play.
     All(u32),
@@ -39,7 +39,7 @@ pub enum Played {
 }
 
 // The record after a play, and its answer.
-#[derive(Drop)]
+#[derive(Clone, Copy)]
 pub struct Outcome {
     pub after: Dac,
     pub answer: Played,

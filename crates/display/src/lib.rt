@@ -18,7 +18,7 @@ use stretch::{Ink, Row};
 use units::{Dots, Lines};
 
 // What a word is.
-#[derive(Drop)]
+#[derive(Clone, Copy)]
 pub enum Kind {
     Character {
         colour: u8,
@@ -36,7 +36,7 @@ pub enum Kind {
 }
 
 // A word of the decoded screen: where it stands, its row's size, and what it is.
-#[derive(Drop)]
+#[derive(Clone, Copy)]
 struct Placed {
     x: Dots,
     y: Lines,
@@ -45,7 +45,7 @@ struct Placed {
 }
 
 // Where the next word stands, and the background by then.
-#[derive(Drop)]
+#[derive(Clone, Copy)]
 pub struct Pen {
     x: Dots,
     y: Lines,
@@ -54,7 +54,7 @@ pub struct Pen {
 }
 
 // What stays the same over a line: where rows start, the line, the mode, and whether blinking characters are lit.
-#[derive(Drop)]
+#[derive(Clone, Copy)]
 pub struct View {
     left: Dots,
     line: Lines,

@@ -11,7 +11,7 @@ ghost use Rattle.fontline.specs.Steps.{ByteBefore, NumberBefore, WordsBefore};
 const ROOM: usize = 36;
 
 // A line at the back of its bytes, from `start` on; the bytes before it are 0.
-#[derive(Drop)]
+#[derive(Clone, Copy)]
 pub struct Line {
     pub bytes: [u8; ROOM],
     pub start: usize,

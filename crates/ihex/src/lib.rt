@@ -35,7 +35,7 @@ pub const END: u8 = 1;
 // What stands in the scratch for a byte that no record gave.
 const NOT_GIVEN: u16 = 256;
 
-#[derive(Drop)]
+#[derive(Clone, Copy)]
 pub enum Outcome {
     // The bytes that the records give.
     Done(u32),
@@ -148,7 +148,7 @@ fn ended(n: usize, address: usize, place: u32, more: bool, after: u32, count: u3
 }
 
 // One line: not of the record's shape, or its eight-bit sum and where the next line starts.
-#[derive(Drop)]
+#[derive(Clone, Copy)]
 enum Line {
     Unshaped,
     Shaped { sum: u8, next: usize },

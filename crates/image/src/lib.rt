@@ -18,7 +18,7 @@ pub const UNUSED: u8 = 255;
 
 pub const UPPER_BITS: u8 = 240;
 
-#[derive(Drop)]
+#[derive(Clone, Copy)]
 pub enum Turned {
     Done,
     // The lengths are not 8,192 bytes and 1,116 rows (0), or a set bit is missing at this address.

@@ -8,7 +8,7 @@ use units::{Dots, Lines};
 
 // What the host sets. Numbers are wide, so that a value out of range is seen and refused.
 #[repr(C)]
-#[derive(Drop)]
+#[derive(Clone, Copy)]
 pub struct Settings {
     pub on: bool,
     pub mode: u32,
@@ -19,7 +19,7 @@ pub struct Settings {
     pub frequency: u32,
 }
 
-#[derive(Drop)]
+#[derive(Clone, Copy)]
 pub enum Painted {
     Done,
     // A setting is outside its range.

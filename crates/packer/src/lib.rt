@@ -22,7 +22,7 @@ const HALF: u64 = 4294967296;
 // What takes the lower part of a product of halves away.
 const LOWER: u64 = 1073741824;
 
-#[derive(Drop)]
+#[derive(Clone, Copy)]
 pub enum Packed {
     // How many cells the glyphs take.
     Done(u32),
@@ -35,7 +35,7 @@ pub enum Packed {
 }
 
 // What comes of numbering the patterns: how many there are, or more than a font has cells, or a row above 4095.
-#[derive(Drop)]
+#[derive(Clone, Copy)]
 enum Numbering {
     All(usize),
     TooMany,

@@ -6,7 +6,7 @@ ghost use Rattle.std.specs.Prelude.{◌≡◌, map};
 ghost use Rattle.port.specs.Port.{kept_word, kept_of, fresh_port, address_written, attribute_written, character_written};
 
 #[repr(C)]
-#[derive(Drop)]
+#[derive(Clone, Copy)]
 pub struct Port {
     pub address: u8,
     pub attribute: u8,

@@ -4,7 +4,7 @@
 ghost use Rattle.std.specs.Prelude.{◌≡◌};
 ghost use Rattle.pulse.specs.Pulse.{answer_of, said, period_of, kept_of};
 
-#[derive(Drop)]
+#[derive(Clone, Copy)]
 pub enum Level {
     Low,
     High,

@@ -10,7 +10,7 @@ ghost use Rattle.stretch.specs.Stretch.{shade_set, tone_of, stretched};
 use units::Dots;
 
 // What is laid: the row's bits, those of the row above it, which throw the shadow, and whether the cell before throws its own on the first column.
-#[derive(Drop)]
+#[derive(Clone, Copy)]
 pub struct Row {
     pub bits: u16,
     pub above: u16,
@@ -18,7 +18,7 @@ pub struct Row {
 }
 
 // The bytes of a set bit, of a dot in the shadow, and of any other.
-#[derive(Drop)]
+#[derive(Clone, Copy)]
 pub struct Ink {
     pub on: u8,
     pub shade: u8,

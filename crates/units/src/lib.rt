@@ -1,8 +1,8 @@
 // Dots, counted in OSD clocks, and scan lines: two types, so that one is never passed for the other.
 #![tactic(auto)]
 
-#[derive(Drop)]
+#[derive(Clone, Copy)]
 pub struct Dots(pub usize);
 
-#[derive(Drop)]
+#[derive(Clone, Copy)]
 pub struct Lines(pub usize);

@@ -26,7 +26,7 @@ const RECORD_TEXT: usize = FRONT_TEXT + 2 * RECORD_BYTES + BACK_TEXT;
 // The data records' text, and the end record's.
 const TEXT_BYTES: usize = RECORD_TEXT * RECORDS + FRONT_TEXT + BACK_TEXT;
 
-#[derive(Drop)]
+#[derive(Clone, Copy)]
 pub enum Written {
     Done,
     // The font has not 1,116 rows.
