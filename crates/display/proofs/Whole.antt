@@ -5,8 +5,6 @@ use mathlib.Core.Bool.{Bool, true, false}
 use mathlib.Core.List.{List, ◌++◌}
 use Prim.Native.Nat.{ℕ, ◌%◌, ◌≤◌}
 use native.Mathlib.Omega.{arith}
-use types.Run.{OneOf}
-use denote.Enum.Declared.{tag_of}
 use borrow.Author.Tests.{eq-eqb, ne_eqb}
 use lib.ListN.{length, take, drop, replicate}
 use lib.Seq.{length-take-le}
@@ -23,8 +21,7 @@ use Rattle.judging.specs.declared.Settings.{Settings}
 use Rattle.judging.specs.declared.Painted.{Painted}
 use Rattle.judging.specs.declared.Painted.TheVariants.{Done}
 use Rattle.judging.specs.Judging.{answer_of, said}
-use Rattle.judging.proofs.Accepted.{accepted_done, done_is, refusals, not_done}
-use Rattle.judging.specs.contracts.Painted.{the_type}
+use Rattle.judging.proofs.Accepted.{accepted_done, done_is, not_done}
 use Rattle.display.specs.declared.View.{View}
 use Rattle.display.specs.Words.{kinds_of}
 use Rattle.display.specs.Cells.{Cell}
@@ -72,7 +69,7 @@ module _ (words font : List ℕ) (s : Settings) (line : Lines) (width : Dots) (o
       record { words = acc.words64; rows = acc.rows; colour = acc.colour; h = acc.h; v = acc.v; ratio = acc.ratio; frequency = acc.frequency }
 
 module _ (words font : List ℕ) (s : Settings) (frame : ℕ) (line : Lines) (width : Dots) (out : List ℕ) (r : Painted) (e : said r ≡ answer_of words font s line width (length out)) where
-  pub refused_leaves : OneOf refusals (tag_of the_type r) → out ≡ left_by words font s frame line width out
+  pub refused_leaves : (r ≡ Done → ⊥) → out ≡ left_by words font s frame line width out
   unfolding left_by
   refused_leaves other =
       simp (ne_eqb (answer_of words font s line width (length out)).number 0 (λ z. not_done r other (ap (λ (a : Said). a.number) e ∙ z)))

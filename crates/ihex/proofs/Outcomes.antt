@@ -1,8 +1,6 @@
 -- From the verdict on a text to the reader's answer and to what it leaves in the room lent, once the two lengths are tested.
 -- Assumes nothing.
 use Rattle.std.proofs.Common.{◌≡◌, ℕ, ◌≤◌, Bool, true, false, List, [], ◌∷◌, ◌++◌, map, length, get_or, drop, sym, refl, ap, ◌∙◌, arith, le-ltb, lt-ltb, eq-eqb, ne_eqb}
-use denote.Enum.Declared.{tag_of}
-use types.Run.{OneOf, miss}
 use Rattle.laws.specs.Pick.{pick}
 use Rattle.laws.specs.Lists.{tabulate}
 use Rattle.laws.proofs.Lists.{tabulate_same, get_d_tabulate}
@@ -12,7 +10,6 @@ use Rattle.ihex.specs.Records.{records, record_of, byte_in, gives, data_at}
 use Rattle.ihex.specs.Reading.{answer_of, left_of, said, verdict}
 use Rattle.ihex.specs.Steps.{Collected, byte_for}
 use Rattle.ihex.specs.declared.Outcome.{Outcome}
-use Rattle.ihex.specs.contracts.Outcome as outcome
 use Rattle.ihex.specs.declared.Outcome.TheVariants.{Done, NoRoom, TooLong, BadCharacter, BadShape, BadSum, BadType, PastEnd, GivenTwice, BadEnd}
 use Rattle.ihex.proofs.Given.{record_small}
 
@@ -48,13 +45,9 @@ module _ (text room : List ℕ) (long : 8192 ≤ length room) (short : length te
     unfolding left_of
     keeps e = rw (ne_eqb _ 0 (λ z. e (number ∙ z)))
 
--- the tags of all cases but the first
-abbrev refusals : List ℕ
-refusals = 1 ∷ 2 ∷ 3 ∷ 4 ∷ 5 ∷ 6 ∷ 7 ∷ 8 ∷ 9 ∷ []
-
--- an outcome that is not the first case is a refusal
-pub not_done : (x : Outcome) → OneOf refusals (tag_of outcome.the_type x) → (said x).number ≡ 0 → ⊥
-not_done (Done n) k e = miss refusals 0 tt k
+-- an outcome that is not `Done` tells a number above 0
+pub not_done : (x : Outcome) → ((n : ℕ) → x ≡ Done n → ⊥) → (said x).number ≡ 0 → ⊥
+not_done (Done n) k e = k n refl
 not_done NoRoom k e = omega arith
 not_done TooLong k e = omega arith
 not_done (BadCharacter p) k e = omega arith

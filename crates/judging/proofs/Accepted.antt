@@ -5,8 +5,6 @@ use mathlib.Core.Bool.{Bool, true, false, not}
 use mathlib.Core.List.{List, [], ◌∷◌}
 use Prim.Native.Nat.{ℕ, suc, ◌<◌, ◌≤◌}
 use native.Mathlib.Omega.{arith}
-use types.Run.{OneOf, miss}
-use denote.Enum.Declared.{tag_of}
 use borrow.Author.Tests.{le-leb, lt-leb, leb-true, ltb-false, eqb-true, eqb-false, not-false}
 use lib.Dec.{leb, ltb, eqb}
 use lib.ListN.{length}
@@ -21,7 +19,6 @@ use Rattle.judging.specs.declared.Settings.{Settings}
 use Rattle.judging.specs.declared.Painted.{Painted}
 use Rattle.judging.specs.declared.Painted.TheVariants.{Done, BadSetting, ReservedRatio, BadWords, FontLength, BadRow, OffScreen, NoRoom}
 use Rattle.judging.specs.Judging.{word_count, in_range, all_are_words, on_screen, answer_of, said}
-use Rattle.judging.specs.contracts.Painted.{the_type}
 
 module _ (s : Settings) where
   pub bad_mode : 3 < s.mode → false ≡ in_range s
@@ -93,13 +90,9 @@ pub accepted_done : (words font : List ℕ) (s : Settings) (line : Lines) (width
     → Accepted words font s width room
 accepted_done words font s line width room r e d = accepted_by words font s line width room (done_is r _ e d)
 
--- the tags of all cases but Done
-abbrev pub refusals : List ℕ
-refusals = 1 ∷ 2 ∷ 3 ∷ 4 ∷ 5 ∷ 6 ∷ 7 ∷ []
-
--- any other case than Done has another number than 0
-pub not_done : (r : Painted) → OneOf refusals (tag_of the_type r) → (said r).number ≡ 0 → ⊥
-not_done Done w e = miss refusals 0 tt w
+-- an answer that is not `Done` tells a number above 0
+pub not_done : (r : Painted) → (r ≡ Done → ⊥) → (said r).number ≡ 0 → ⊥
+not_done Done w e = w refl
 not_done BadSetting w e = omega arith
 not_done ReservedRatio w e = omega arith
 not_done BadWords w e = omega arith

@@ -24,20 +24,20 @@ pub returns-in_default : goal.returns-in_default
 returns-in_default c =
     let turn = c.loop-at in
     let parsed = c.parse.ensures in
-    let told = c.in_default.is.1 in
+    let told = c.in_default.is in
     let answer = c.bad_line.ensures in
     meets_none turn.invariant.passed (omega arith) parsed told answer
 
 pub overflow_cast-after : goal.overflow_cast-after
 overflow_cast-after c =
     let met =
-    (meets c.before.loop.invariant.passed c.loop-at-test.true.taken c.parse.ensures c.in-Shaped.is.1) in
+    (meets c.loop-at.invariant.passed c.loop-at-test.true c.parse.ensures c.in-Shaped.is) in
     omega (arith, (met_next met).0)
 
 pub returns-then-sum-ne0 : goal.returns-then-sum-ne0
 returns-then-sum-ne0 c =
     let met =
-    (meets c.before.loop.invariant.passed c.loop-at-test.true.taken c.parse.ensures c.in-Shaped.is.1) in
+    (meets c.loop-at.invariant.passed c.loop-at-test.true c.parse.ensures c.in-Shaped.is) in
     refused_by (met_sum met (omega arith)) (omega arith)
 
 pub overflow_cast-n : goal.overflow_cast-n
@@ -49,7 +49,7 @@ overflow_cast-n c =
 pub returns-then-kind-eq-END : goal.returns-then-kind-eq-END
 returns-then-kind-eq-END c =
     let met =
-    (meets c.before.loop.invariant.passed c.loop-at-test.true.taken c.parse.ensures c.in-Shaped.is.1) in
+    (meets c.loop-at.invariant.passed c.loop-at-test.true c.parse.ensures c.in-Shaped.is) in
     let reads = c.address_of-address.ensures in
     let answer = c.ended.ensures in
     said_ended met reads _ _ _ _ (omega arith) (search) answer
@@ -57,7 +57,7 @@ returns-then-kind-eq-END c =
 pub returns-then-kind-ne-DATA : goal.returns-then-kind-ne-DATA
 returns-then-kind-ne-DATA c =
     let met =
-    (meets c.before.loop.invariant.passed c.loop-at-test.true.taken c.parse.ensures c.in-Shaped.is.1) in
+    (meets c.loop-at.invariant.passed c.loop-at-test.true c.parse.ensures c.in-Shaped.is) in
     refused_by (said_type met (omega arith)) (omega arith)
 
 pub overflow_add-address : goal.overflow_add-address
@@ -69,7 +69,7 @@ overflow_add-address c =
 pub returns-then-address-n-gt-IMAGE_BYTES : goal.returns-then-address-n-gt-IMAGE_BYTES
 returns-then-address-n-gt-IMAGE_BYTES c =
     let met =
-    (meets c.before.loop.invariant.passed c.loop-at-test.true.taken c.parse.ensures c.in-Shaped.is.1) in
+    (meets c.loop-at.invariant.passed c.loop-at-test.true c.parse.ensures c.in-Shaped.is) in
     let reads = c.address_of-address.ensures in
     refused_by (said_past met reads (omega arith)) (omega arith)
 
@@ -83,13 +83,13 @@ store-requires c =
 pub loop-at-smaller : goal.loop-at-smaller
 loop-at-smaller c =
     let met =
-    (meets c.before.loop.invariant.passed c.loop-at-test.true.taken c.parse.ensures c.in-Shaped.is.1) in
+    (meets c.loop-at.invariant.passed c.loop-at-test.true c.parse.ensures c.in-Shaped.is) in
     omega (arith, (met_next met).1)
 
 pub loop-at-preserved : goal.loop-at-preserved
 loop-at-preserved c =
     let met =
-    (meets c.before.loop.invariant.passed c.loop-at-test.true.taken c.parse.ensures c.in-Shaped.is.1) in
+    (meets c.loop-at.invariant.passed c.loop-at-test.true c.parse.ensures c.in-Shaped.is) in
     let reads = c.address_of-address.ensures in
     let stored = c.store.ensures in
     record { passed = said_passed met reads stored (omega arith) (search); room = omega arith; whole = omega arith }
@@ -97,7 +97,7 @@ loop-at-preserved c =
 pub returns-else-store : goal.returns-else-store
 returns-else-store c =
     let met =
-    (meets c.before.loop.invariant.passed c.loop-at-test.true.taken c.parse.ensures c.in-Shaped.is.1) in
+    (meets c.loop-at.invariant.passed c.loop-at-test.true c.parse.ensures c.in-Shaped.is) in
     let reads = c.address_of-address.ensures in
     let stored = c.store.ensures in
     refused_by (said_twice met reads stored (omega arith) (search)) (omega arith)

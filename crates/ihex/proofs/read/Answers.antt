@@ -32,7 +32,7 @@ returns-in-Done c =
     let long : image_bytes ≤ length a.image.now = omega arith in
     let short : length a.text.now ≤ most_text = omega arith in
     let called = c.collect-outcome in
-    let told = c.in-Done.is.1 in
+    let told = c.in-Done.is in
     let accepts : (said called.result).number ≡ 0 = omega (arith, ap (λ x. (said x).number) told) in
     let copied = c.copy_out.ensures in
     (called.ensures.says ∙ answers a.text.now a.image.now long short, copied ∙ leaves a.text.now a.image.now long short called.ensures accepts)
@@ -43,4 +43,4 @@ returns-in_default c =
     let long : image_bytes ≤ length a.image.now = omega arith in
     let short : length a.text.now ≤ most_text = omega arith in
     let called = c.collect-outcome in
-    (called.ensures.says ∙ answers a.text.now a.image.now long short, keeps a.text.now a.image.now long short called.ensures (not_done called.result (search)))
+    (called.ensures.says ∙ answers a.text.now a.image.now long short, keeps a.text.now a.image.now long short called.ensures (not_done called.result c.in_default.not-Done))
