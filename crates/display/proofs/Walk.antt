@@ -1,7 +1,7 @@
 -- The walk along a row, dot by dot: painting a cell, and then the cells after it with what it throws on the first of them, paints the account's list of cells. And the
 -- walk past the rows above the line.
 -- Assumes nothing.
-use mathlib.Core.Path.{◌≡◌, refl, sym, ap, ◌∙◌}
+use mathlib.Core.Path.{◌≡◌, refl, sym, ap, subst, ◌∙◌}
 use mathlib.Core.Bool.{Bool, true, false, true≢false}
 use mathlib.Core.Logic.{⊎_elim}
 use mathlib.Core.List.{List, [], ◌∷◌}
@@ -53,6 +53,11 @@ module _ (dots : Drawn) (v : View) (k : ℕ) where
   pub painted_quiet : (cs : List Cell) (old : ℕ) → any_of (has v k) cs ≡ false → any_of (throws dots v k) cs ≡ false → painted dots v false cs k old ≡ old
   painted_quiet cs old none dark = painted_none cs false old none dark ∙ fallen_none old
 
+  -- a cell that does not have the dot paints nothing on it
+  skipped : (c : Cell) (cs : List Cell) (old : ℕ) (shaded : Bool) → has v k c ≡ false → painted_in dots v (c ∷ cs) k old shaded ≡ painted_in dots v cs k old shaded
+  unfolding first_shown
+  skipped c cs old shaded away = rw away
+
   -- a cell that has the dot, before cells that have nothing to do with it
   module _ (c : Cell) (cs : List Cell) (before : Bool) (old : ℕ) where
     pub walk_here : has v k c ≡ true → any_of (has v k) cs ≡ false → any_of (throws dots v k) cs ≡ false
@@ -66,8 +71,14 @@ module _ (dots : Drawn) (v : View) (k : ℕ) where
     walk_by : (t : Bool) → eqb v.mode 1 ≡ t → (next : Bool) → has v k c ≡ false → before ≡ false → (v.mode ≡ 1 → throws dots v k c ≡ next)
         → painted dots v next cs k old ≡ painted dots v before (c ∷ cs) k old
     unfolding first_shown any_of
-    walk_by true in_1 next away clear hands = rw (away, clear, hands (eqb-true _ _ in_1))
-    walk_by false other next away clear hands = rw (away, clear) (painted_plain cs old (either next (any_of (throws dots v k) cs)) (either (throws dots v k c) (any_of (throws dots v k) cs)) other)
+    walk_by true in_1 next away clear hands =
+        subst (λ (b : Bool). painted dots v next cs k old ≡ painted dots v b (c ∷ cs) k old) (sym clear)
+        (sym (skipped c cs old (any_of (throws dots v k) (c ∷ cs)) away
+        ∙ ap (λ (t : Bool). painted_in dots v cs k old (either t (any_of (throws dots v k) cs))) (hands (eqb-true _ _ in_1))))
+    walk_by false other next away clear hands =
+        subst (λ (b : Bool). painted dots v next cs k old ≡ painted dots v b (c ∷ cs) k old) (sym clear)
+        (painted_plain cs old (either next (any_of (throws dots v k) cs)) (any_of (throws dots v k) (c ∷ cs)) other
+        ∙ sym (skipped c cs old (any_of (throws dots v k) (c ∷ cs)) away))
 
     pub walk_away : (next : Bool) → has v k c ≡ false → before ≡ false → (v.mode ≡ 1 → throws dots v k c ≡ next)
         → painted dots v next cs k (drawn_dot dots v k before c old) ≡ painted dots v before (c ∷ cs) k old
@@ -76,8 +87,10 @@ module _ (dots : Drawn) (v : View) (k : ℕ) where
 
   -- one that has nothing to do with it
   pub walk_past : (c : Cell) (cs : List Cell) (before : Bool) (old : ℕ) → has v k c ≡ false → throws dots v k c ≡ false → painted dots v before (c ∷ cs) k old ≡ painted dots v before cs k old
-  unfolding first_shown any_of
-  walk_past c cs before old away dark = rw (away, dark)
+  unfolding any_of
+  walk_past c cs before old away dark =
+      skipped c cs old (either before (any_of (throws dots v k) (c ∷ cs))) away
+      ∙ ap (λ (t : Bool). painted_in dots v cs k old (either before (either t (any_of (throws dots v k) cs)))) dark
 
   -- the end of a row
   pub row_end : (p : Pen) (thrown : Bool) (old : ℕ) → (thrown ≡ true → v.mode ≡ 1) → fallen v (on_first p.x p.size thrown k) old ≡ end_of p.x p.size thrown k old

@@ -6,9 +6,6 @@ use Prim.Native.Nat.{ℕ, ◌/◌, ◌≤◌}
 use mathlib.Core.Path.{◌≡◌, ap, sym, ◌∙◌}
 use Rattle.display.proofs.cut_row.Goals as goal
 
-last_size : (size : ℕ) → 1 ≤ size → size ≤ 4 → (size ≡ 1 → ⊥) → (size ≡ 2 → ⊥) → (size ≡ 3 → ⊥) → size ≡ 4
-last_size size l h one two three = omega arith
-
 pub returns-in-1 : goal.returns-in-1
 returns-in-1 c =
     let a = c.args in
@@ -27,6 +24,5 @@ returns-in-3 c =
 pub returns-in_default : goal.returns-in_default
 returns-in_default c =
     let a = c.args in
-    let others = c.in_default in
-    let e = last_size a.size (omega arith) (omega arith) others.0.0.1 others.0.1 others.1 in
+    let e : a.size ≡ 4 = omega arith in
     ap (λ n. a.distance / n) (sym e)

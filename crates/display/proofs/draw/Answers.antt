@@ -10,21 +10,21 @@ use Rattle.display.proofs.draw.Goals as goal
 pub row_shown-row-requires : goal.row_shown-row-requires
 row_shown-row-requires c =
     let pre = c.requires in
-    let told = c.in-Character.is.1 in
+    let told = c.in-Character.is in
     let row = c.cut_row-l.ensures in
     (pre.rows, ((character_sound _ _ _ _ told pre.sound).1, omega (arith, row, row_within _ _ pre.cut)))
 
 pub overflow_add-colour : goal.overflow_add-colour
 overflow_add-colour c =
     let pre = c.requires in
-    let told = c.in-Character.is.1 in
+    let told = c.in-Character.is in
     omega (arith, (character_sound _ _ _ _ told pre.sound).0)
 
 pub returns-in-Character : goal.returns-in-Character
 returns-in-Character c =
     let a = c.args in
     let pre = c.requires in
-    let told = c.in-Character.is.1 in
+    let told = c.in-Character.is in
     let row = c.cut_row-l.ensures in
     let shown = c.row_shown-row.ensures in
     let laid = c.lay.ensures in
@@ -34,7 +34,7 @@ pub returns-in-Space : goal.returns-in-Space
 returns-in-Space c =
     let a = c.args in
     let pre = c.requires in
-    let told = c.in-Space.is.1 in
+    let told = c.in-Space.is in
     let empty = c.blank.ensures in
     let laid = c.lay-in-Space.ensures in
     drawn_space a.font.now a.view (pen_at a.cell a.background) a.thrown a.out.now _ pre.cut pre.some _ _ a.cell.kind told (own_sound _ _ told pre.sound) empty laid
@@ -43,14 +43,14 @@ pub returns-in-Return : goal.returns-in-Return
 returns-in-Return c =
     let a = c.args in
     let pre = c.requires in
-    let told = c.in-Return.is.1 in
-    let ended = c.End-row.ensures in
+    let told = c.in-Return.is in
+    let ended = c.end_row.ensures in
     drawn_return a.font.now a.view (pen_at a.cell a.background) a.thrown a.out.now _ pre.cut pre.some _ _ a.cell.kind told ended
 
 pub returns-in-End : goal.returns-in-End
 returns-in-End c =
     let a = c.args in
     let pre = c.requires in
-    let told = c.in-End.is.1 in
+    let told = c.in-End.is in
     let ended = c.end_row-in-End.ensures in
     drawn_end a.font.now a.view (pen_at a.cell a.background) a.thrown a.out.now _ pre.cut pre.some a.cell.kind told ended

@@ -26,7 +26,7 @@ paint_line-requires c = search usable
 pub returns-then-settings : goal.returns-then-settings
 returns-then-settings c =
     let painted = c.paint_line.ensures in
-    let done = c.in-Done.is.1 in
+    let done = c.in-Done.is in
     let said = c.judged-verdict.ensures in
     let a = c.args in
     let on : a.settings.on ≡ true = search in
@@ -35,7 +35,7 @@ returns-then-settings c =
 pub returns-else-settings : goal.returns-else-settings
 returns-else-settings c =
     let filled = c.fill.ensures in
-    let done = c.in-Done.is.1 in
+    let done = c.in-Done.is in
     let said = c.judged-verdict.ensures in
     let a = c.args in
     let off : a.settings.on ≡ false = search in

@@ -12,7 +12,7 @@ row_step-requires c =
 
 pub returns : goal.returns
 returns c =
-    let walked = c.Row-step.ensures in
+    let walked = c.row_step.ensures in
     let filled = c.fill.ensures in
     let other = c.ground.ensures in
     let blink = c.lit-lit.ensures in
