@@ -1,6 +1,6 @@
 -- `packer::clear` meets its contract: the rows before i are 0, the others as they were.
 -- Assumes nothing.
-use Rattle.std.proofs.Common.{◌-◌, arith}
+use Rattle.std.proofs.Common.{arith}
 use Rattle.packer.proofs.Rows.{blank_none, blank_more, blank_all}
 use Rattle.packer.proofs.clear.Goals as goal
 

@@ -53,8 +53,8 @@ further-requires c =
       low = omega (arith, c.requires.low);
       roomy = c.requires.roomy;
       chained = c.requires.chained;
-      starts = λ c l. c.requires.starts c (omega arith);
-      falls = λ c l. c.requires.falls c (omega arith);
+      starts = λ k l. c.requires.starts k (omega arith);
+      falls = λ k l. c.requires.falls k (omega arith);
     }
 
 pub returns : goal.returns

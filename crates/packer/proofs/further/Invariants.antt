@@ -1,6 +1,6 @@
 -- `packer::further` meets its contract: the walk goes down the chain, to a pattern with the glyph's rows or to the chain's end.
 -- Assumes nothing.
-use Rattle.std.proofs.Common.{ℕ, ◌-◌, ◌≤◌}
+use Rattle.std.proofs.Common.{ℕ, ◌≤◌}
 use Rattle.packer.specs.Steps.{Walk}
 use Rattle.packer.proofs.further.Given as goal
 

@@ -1,6 +1,6 @@
 -- `packer::lay_cells` meets its contract: the places passed have their cells, the others are as lent.
 -- Assumes nothing.
-use Rattle.std.proofs.Common.{◌-◌, refl, arith}
+use Rattle.std.proofs.Common.{refl, arith}
 use Rattle.laws.proofs.Lists.{filled_none, filled_more, filled_all}
 use Rattle.packer.proofs.lay_cells.Goals as goal
 

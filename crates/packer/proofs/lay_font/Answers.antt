@@ -1,6 +1,6 @@
 -- `packer::lay_font` meets its contract: the cells before `cell` are as the font has them, and then the rest is.
 -- Assumes nothing.
-use Rattle.std.proofs.Common.{◌-◌, arith, w16}
+use Rattle.std.proofs.Common.{arith, w16}
 use borrow.Table.Referent.{f_int}
 use borrow.Rule.Slice.Know.{Fit}
 use Rattle.laws.proofs.Lists.{filled_none, filled_all}

@@ -1,11 +1,12 @@
 -- `packer::number` meets its contract: the tables hold for the glyphs before g.
 -- Assumes nothing.
-use Rattle.std.proofs.Common.{◌≡◌, ◌-◌, ◌*◌, true, false, sym, refl, ◌∙◌, ⊎_elim, arith}
+use Rattle.std.proofs.Common.{◌≡◌, ◌*◌, true, false, sym, refl, ◌∙◌, arith}
 use borrow.Author.Tests.{not-true, not-false}
 use Rattle.packer.specs.Steps.{narrow_at}
 use Rattle.packer.proofs.Words.{spot_below}
 use Rattle.packer.proofs.Table.{table_none, table_small, table_head, table_chained, table_walk, table_found, table_over, table_old, table_new, table_wide, table_all}
 use Rattle.packer.proofs.number.Goals as goal
+use Rattle.packer.proofs.number.Goals.{then-found-eq0+else-not-narrow+else-used-eq-FONT_CELLS, else-found-eq0}
 
 pub loop-g-init : goal.loop-g-init
 loop-g-init c = table_none _ _ _ _ _ (omega arith) (omega arith)
@@ -26,21 +27,21 @@ pub bounds-heads-spot : goal.bounds-heads-spot
 bounds-heads-spot c =
     let a = c.args in
     let turn = c.loop-g in
-    let spot = c.spot_of_lem in
+    let spot = c.spot_of-spot in
     omega (arith, turn.invariant.last.size, spot.ensures, spot_below a.glyphs.now (18 * turn.g))
 
 pub overflow_cast-head : goal.overflow_cast-head
 overflow_cast-head c =
     let a = c.args in
     let turn = c.loop-g in
-    let spot = c.spot_of_lem in
+    let spot = c.spot_of-spot in
     omega (arith, table_head a.glyphs.now turn.g turn.used _ turn.firsts _ turn.numbers _ turn.nexts turn.heads c.requires turn.invariant (omega arith) _ _ spot.ensures refl)
 
 pub find-found-requires : goal.find-found-requires
 find-found-requires c =
     let a = c.args in
     let turn = c.loop-g in
-    let spot = c.spot_of_lem in
+    let spot = c.spot_of-spot in
     table_chained a.glyphs.now turn.g turn.used _ turn.firsts _ turn.numbers _ turn.nexts turn.heads c.requires turn.invariant (omega arith) _ _ spot.ensures refl
 
 pub narrow-requires : goal.narrow-requires
@@ -85,7 +86,7 @@ pub returns-then-used-eq-FONT_CELLS : goal.returns-then-used-eq-FONT_CELLS
 returns-then-used-eq-FONT_CELLS c =
     let a = c.args in
     let turn = c.loop-g in
-    let spot = c.spot_of_lem in
+    let spot = c.spot_of-spot in
     let found = c.find-found in
     let by = found.ensures turn.used (table_walk a.glyphs.now turn.g turn.used _ turn.firsts _ turn.numbers _ turn.nexts turn.heads c.requires turn.invariant (omega arith) _ _ spot.ensures refl) in
     let narrow = c.narrow.ensures in
@@ -109,7 +110,7 @@ pub overflow_cast-nexts : goal.overflow_cast-nexts
 overflow_cast-nexts c =
     let a = c.args in
     let turn = c.loop-g in
-    let spot = c.spot_of_lem in
+    let spot = c.spot_of-spot in
     omega (arith, table_head a.glyphs.now turn.g turn.used _ turn.firsts _ turn.numbers _ turn.nexts turn.heads c.requires turn.invariant (omega arith) _ _ spot.ensures refl)
 
 pub bounds-nexts-used : goal.bounds-nexts-used
@@ -134,21 +135,20 @@ pub bounds-heads-spot-then-found-eq0 : goal.bounds-heads-spot-then-found-eq0
 bounds-heads-spot-then-found-eq0 c =
     let a = c.args in
     let turn = c.loop-g in
-    let spot = c.spot_of_lem in
+    let spot = c.spot_of-spot in
     omega (arith, turn.invariant.last.size, spot.ensures, spot_below a.glyphs.now (18 * turn.g))
 
 pub overflow_cast-numbers : goal.overflow_cast-numbers
 overflow_cast-numbers c =
     let a = c.args in
     let turn = c.loop-g in
-    let spot = c.spot_of_lem in
+    let spot = c.spot_of-spot in
     let found = c.find-found in
     let by = found.ensures turn.used (table_walk a.glyphs.now turn.g turn.used _ turn.firsts _ turn.numbers _ turn.nexts turn.heads c.requires turn.invariant (omega arith) _ _ spot.ensures refl) in
-    let joined = c.if-found-eq0 in
-    ⊎_elim
-    (λ w. omega (arith, w.8, turn.invariant.few))
-    (λ w. omega (arith, w.5, table_found a.glyphs.now turn.g turn.used _ turn.firsts _ turn.numbers _ turn.nexts turn.heads c.requires turn.invariant (omega arith) _ _ spot.ensures refl _ by))
-    joined.came
+    elim c.if-found-eq0.branch [
+      | then-found-eq0+else-not-narrow+else-used-eq-FONT_CELLS w ↦ omega (arith, w, turn.invariant.few)
+      | else-found-eq0 w ↦ omega (arith, w, table_found a.glyphs.now turn.g turn.used _ turn.firsts _ turn.numbers _ turn.nexts turn.heads c.requires turn.invariant (omega arith) _ _ spot.ensures refl _ by)
+    ]
 
 pub bounds-numbers-g : goal.bounds-numbers-g
 bounds-numbers-g c =
@@ -166,14 +166,13 @@ pub loop-g-preserved : goal.loop-g-preserved
 loop-g-preserved c =
     let a = c.args in
     let turn = c.loop-g in
-    let spot = c.spot_of_lem in
+    let spot = c.spot_of-spot in
     let found = c.find-found in
     let by = found.ensures turn.used (table_walk a.glyphs.now turn.g turn.used _ turn.firsts _ turn.numbers _ turn.nexts turn.heads c.requires turn.invariant (omega arith) _ _ spot.ensures refl) in
-    let joined = c.if-found-eq0 in
-    ⊎_elim
-    (λ w. rw (w.4, w.5, w.6, w.7, w.8) (table_new a.glyphs.now turn.g turn.used _ turn.firsts _ turn.numbers _ turn.nexts turn.heads c.requires turn.invariant (omega arith) _ _ spot.ensures refl _ by (omega arith) (sym w.1.ensures ∙ not-false _ w.2.left) (omega arith)))
-    (λ w. rw (w.1, w.2, w.3, w.4, w.5) (table_old a.glyphs.now turn.g turn.used _ turn.firsts _ turn.numbers _ turn.nexts turn.heads c.requires turn.invariant (omega arith) _ _ spot.ensures refl _ by (omega arith)))
-    joined.came
+    elim c.if-found-eq0.branch [
+      | then-found-eq0+else-not-narrow+else-used-eq-FONT_CELLS w ↦ rw (w.firsts-is, w.heads-is, w.nexts-is, w.used-is, w.found-is) (table_new a.glyphs.now turn.g turn.used _ turn.firsts _ turn.numbers _ turn.nexts turn.heads c.requires turn.invariant (omega arith) _ _ spot.ensures refl _ by (omega arith) (sym w.narrow.ensures ∙ w.if-not-narrow.false) (omega arith))
+      | else-found-eq0 w ↦ rw (w.firsts-is, w.heads-is, w.nexts-is, w.used-is, w.found-is) (table_old a.glyphs.now turn.g turn.used _ turn.firsts _ turn.numbers _ turn.nexts turn.heads c.requires turn.invariant (omega arith) _ _ spot.ensures refl _ by (omega arith))
+    ]
 
 pub shape_of-firsts : goal.shape_of-firsts
 shape_of-firsts c =

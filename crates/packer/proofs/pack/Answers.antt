@@ -22,7 +22,7 @@ number-numbering-requires c = record { whole = search test_holds; roomy = search
 pub lay-requires : goal.lay-requires
 lay-requires c =
     let number = c.number-numbering in
-    let is = c.in-All.is.1 in
+    let is = c.in-All.is in
     numbered_all _ _ _ _ _ is number.ensures
 
 pub returns-in-TooWide : goal.returns-in-TooWide

@@ -1,6 +1,6 @@
 -- `packer::put_rows` meets its contract: l rows are copied, and the others are as they were.
 -- Assumes nothing.
-use Rattle.std.proofs.Common.{ℕ, ◌-◌, get_or, refl, ap, arith}
+use Rattle.std.proofs.Common.{ℕ, get_or, refl, ap, arith}
 use Rattle.packer.proofs.Rows.{part_none, part_more, part_all}
 use Rattle.packer.proofs.put_rows.Goals as goal
 

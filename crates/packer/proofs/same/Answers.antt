@@ -1,6 +1,6 @@
 -- `packer::same` meets its contract: the rows before l agree, and where four rows differ the glyphs do.
 -- Assumes nothing.
-use Rattle.std.proofs.Common.{◌-◌, sym, arith, w16}
+use Rattle.std.proofs.Common.{sym, arith, w16}
 use borrow.Table.Referent.{f_int}
 use borrow.Rule.Slice.Know.{Fit}
 use Rattle.packer.proofs.Words.{rows_none, more_four, four_differ, last_decide}

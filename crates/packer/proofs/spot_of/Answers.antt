@@ -16,6 +16,6 @@ returns c =
     let once = c.with_twice.ensures in
     let twice = c.with_twice-sum.ensures in
     let last = c.two.ensures.0 in
-    let sum = c.wrapping_add_u64.ensures in
+    let sum = c.wrapping_add_u64.ensures.value in
     let spot = c.mixed.ensures in
     spot ∙ rw (sum, twice, once, lower, upper, first, second, third, fourth, last)

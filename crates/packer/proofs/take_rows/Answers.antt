@@ -1,6 +1,6 @@
 -- `packer::take_rows` meets its contract: l rows are copied, and the others are as they were.
 -- Assumes nothing.
-use Rattle.std.proofs.Common.{◌-◌, refl, arith}
+use Rattle.std.proofs.Common.{refl, arith}
 use Rattle.packer.proofs.Rows.{part_none, part_more, part_all}
 use Rattle.packer.proofs.take_rows.Goals as goal
 

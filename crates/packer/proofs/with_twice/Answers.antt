@@ -7,6 +7,6 @@ use Rattle.packer.proofs.with_twice.Goals as goal
 pub returns : goal.returns
 unfolding twice_with
 returns c =
-    let once = c.wrapping_add_u64.ensures in
-    let twice = c.wrapping_add_u64-2.ensures in
+    let once = c.wrapping_add_u64.ensures.value in
+    let twice = c.wrapping_add_u64-2.ensures.value in
     twice ∙ rw once
