@@ -6,7 +6,7 @@ use Rattle.answer.proofs.Tells.{tells}
 use Rattle.answer.proofs.turned_answer.Goals as goal
 
 pub returns-in-Done : goal.returns-in-Done
-returns-in-Done c = tells said Done c.before.enum_told.given.1 c.accepted.ensures
+returns-in-Done c = tells said Done c.in-Done.is c.accepted.ensures
 
 pub returns-in-NotAFont : goal.returns-in-NotAFont
-returns-in-NotAFont c = tells said (NotAFont _) c.before.before.turned.given.1 c.refused.ensures
+returns-in-NotAFont c = tells said (NotAFont _) c.in-NotAFont.is c.refused.ensures

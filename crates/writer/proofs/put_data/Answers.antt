@@ -33,9 +33,9 @@ loop-i-preserved c =
     let a = c.args in
     let turn = c.loop-i in
     let held : turn.i < count_of_rows a.n = omega arith in
-    let half = c.half_of_lem.ensures in
+    let half = c.half_of-byte.ensures in
     let put = c.put_byte.ensures in
-    let added = c.wrapping_add_u8-sum.ensures in
+    let added = c.wrapping_add_u8-sum.ensures.value in
     record {
       within = omega arith;
       most = omega arith;
@@ -52,7 +52,7 @@ loop-i-2-preserved c =
     let turn = c.loop-i-2 in
     let none = due_none a.n (omega arith) a.font.now turn.i (omega arith) (omega arith) in
     let put = c.put_byte-in-loop-i-2.ensures in
-    let added = c.wrapping_add_u8-sum-in-loop-i-2.ensures in
+    let added = c.wrapping_add_u8-sum-in-loop-i-2.ensures.value in
     record {
       within = omega arith;
       past = omega arith;
