@@ -103,10 +103,17 @@ next_after [] b c after s = s.0.0
 next_after (x ∷ before) b c after s = next_after before b c after s.1
 
 module _ (dots : Drawn) (v : View) (start k : ℕ) where
+  -- a cell that does not have the dot shows nothing on it
+  passed_by : (c : Cell) (cs : List Cell) (shaded : Bool) → has v k c ≡ false → shaded_dot dots v start (c ∷ cs) k shaded ≡ shaded_dot dots v start cs k shaded
+  unfolding first_shown
+  passed_by c cs shaded away = rw away
+
   -- a cell that has nothing to do with the dot
   skip : (c : Cell) (cs : List Cell) → has v k c ≡ false → throws dots v k c ≡ false → dot_at dots v start (c ∷ cs) k ≡ dot_at dots v start cs k
-  unfolding dot_at first_shown any_of
-  skip c cs away dark = rw (away, dark)
+  unfolding dot_at any_of
+  skip c cs away dark =
+      passed_by c cs (any_of (throws dots v k) (c ∷ cs)) away
+      ∙ ap (λ (t : Bool). shaded_dot dots v start cs k (either t (any_of (throws dots v k) cs))) dark
 
   -- none of these has to do with it
   none : (test : Cell → Bool) (Is : Cell → Type 0) → ((c : Cell) → Is c → test c ≡ false) → (cs : List Cell) → EachOf Is cs → any_of test cs ≡ false
