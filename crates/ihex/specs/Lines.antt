@@ -1,7 +1,7 @@
 -- The lines of a text: document 01, 'The character image', second paragraph. A line ends with LF or CR LF, and the last may lack its end.
 -- No byte is lost: the lines, each with its end, joined again are the text.
 -- Assumes nothing.
-use Rattle.std.specs.Prelude.{◌≡◌, ℕ, Bool, true, List, [], ◌∷◌, map, length, take, ◌==◌, ◌≢◌, slice_index}
+use Rattle.std.specs.Prelude.{ℕ, Bool, true, List, [], ◌∷◌, map, length, take, ◌==◌, ◌≢◌, slice_index}
 use Rattle.laws.specs.Pick.{pick, both}
 use Rattle.laws.specs.Sums.{sum_all}
 

@@ -14,7 +14,6 @@ use Rattle.laws.specs.Pick.{pick}
 use Rattle.laws.specs.Said.{Said, accepted}
 use Rattle.laws.specs.Sums.{sum_all}
 use Rattle.laws.proofs.Tests.{upto_at}
-use Rattle.wave.specs.declared.Pair.{Pair}
 use Rattle.dac.specs.declared.Dac.{Dac}
 use Rattle.wave.specs.Wave.{pair, bit, added, level, wave}
 use Rattle.dac.specs.Running.{dac_of, after_reset, playing, next_level, so_far, clocked, after_clocks, levels_of}

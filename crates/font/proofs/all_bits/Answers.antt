@@ -1,6 +1,6 @@
 -- `font::all_bits`. Where the bits so far are within a bound, so are the numbers passed: of each of the four parts, and then from the front on.
 -- Assumes nothing.
-use Prim.Native.Nat.{ℕ, ◌+◌, ◌-◌, ◌*◌, ◌/◌, ◌≤◌}
+use Prim.Native.Nat.{ℕ, ◌+◌, ◌*◌, ◌/◌, ◌≤◌}
 use native.Mathlib.Omega.{arith}
 use borrow.Author.Count.{below_more}
 use lib.Bits.{bit_or, or_add_and, and_le_l, and_le_r}

@@ -1,6 +1,6 @@
 -- `ihex::bad_line` meets its contract: the invariant is that the characters passed are neither bad nor an end (`Searched`), and what stands behind them decides.
 -- Assumes nothing.
-use Rattle.std.proofs.Common.{◌≡◌, ◌+◌, ◌-◌, true, false, get_or, drop, arith}
+use Rattle.std.proofs.Common.{◌≡◌, ◌+◌, true, false, get_or, drop, arith}
 use Rattle.laws.proofs.Said.{said_by}
 use Rattle.laws.proofs.Tests.{test_holds, test_fails}
 use Rattle.ihex.specs.Lines.{at_end}

@@ -2,7 +2,7 @@
 -- Assumes nothing.
 use Rattle.ihex.proofs.Passed.{passed_none, unfilled_length}
 use Rattle.ihex.proofs.Answers.{bytes_fit, refused_by, over, meets, meets_none, met_next, met_sum, said_ended, said_type, said_past, said_twice, said_passed}
-use Rattle.std.proofs.Common.{◌-◌, length, refl, ap, arith}
+use Rattle.std.proofs.Common.{length, refl, ap, arith}
 use Rattle.ihex.proofs.collect.Goals as goal
 
 pub loop-at-init : goal.loop-at-init

@@ -1,6 +1,6 @@
 -- `ihex::copy_out` meets its contract: the bytes passed are the scratch', the others as lent; the measure is what is left of the image.
 -- Assumes nothing.
-use Rattle.std.proofs.Common.{◌-◌, arith}
+use Rattle.std.proofs.Common.{arith}
 use Rattle.laws.proofs.Lists.{filled_none, filled_more, filled_all}
 use Rattle.ihex.proofs.copy_out.Goals as goal
 

@@ -1,6 +1,6 @@
 -- `ihex::decode` meets its contract: as long as the bits of all values are those of digits, the bytes passed are decoded and summed, and else the sum is none; the measure is what is left of them.
 -- Assumes nothing.
-use Rattle.std.proofs.Common.{◌+◌, ◌-◌, ◌*◌, refl, arith, w8}
+use Rattle.std.proofs.Common.{◌+◌, ◌*◌, refl, arith, w8}
 use borrow.Table.Referent.{f_int}
 use borrow.Rule.Slice.Know.{Fit}
 use Rattle.ihex.proofs.Steps.{table_tells, table_holds, spelling_none, spelling_more, spelling_bad, spelling_all}

@@ -1,6 +1,6 @@
 -- `ihex::store` meets its contract: it is known of the scratch passed whether none was given, and they hold the record's data; the measure is what is left of it.
 -- Assumes nothing.
-use Rattle.std.proofs.Common.{◌≡◌, ◌+◌, ◌-◌, false, ltb, get_or, sym, refl, ap, ◌∙◌, arith, w8, le-ltb, lt-ltb}
+use Rattle.std.proofs.Common.{◌≡◌, ◌+◌, false, ltb, get_or, sym, refl, ap, ◌∙◌, arith, w8, le-ltb, lt-ltb}
 use borrow.Table.Referent.{f_int}
 use borrow.Rule.Slice.Know.{Fit}
 use Rattle.ihex.proofs.Steps.{storing_none, storing_more, storing_all}
@@ -25,10 +25,10 @@ loop-i-preserved c =
     let joined = c.if-scratch-address-lt-NOT_GIVEN in
     let held = get_or turn.scratch (a.address + turn.i) 0 in
     let told : joined.fresh ≡ pick (ltb held 256) false turn.fresh =
-        elim joined.branch [
-          then-scratch-address-lt-NOT_GIVEN w ↦ w.fresh-is ∙ sym (ap (λ b. pick b false turn.fresh) (lt-ltb held 256 (omega (arith, w))))
-          | else-scratch-address-lt-NOT_GIVEN w ↦ w.fresh-is ∙ sym (ap (λ b. pick b false turn.fresh) (le-ltb held 256 (omega (arith, w))))
-        ] in
+    elim joined.branch [
+      | then-scratch-address-lt-NOT_GIVEN w ↦ w.fresh-is ∙ sym (ap (λ b. pick b false turn.fresh) (lt-ltb held 256 (omega (arith, w))))
+      | else-scratch-address-lt-NOT_GIVEN w ↦ w.fresh-is ∙ sym (ap (λ b. pick b false turn.fresh) (le-ltb held 256 (omega (arith, w))))
+    ] in
     (omega arith, storing_more _ _ _ turn.invariant.1 _ _ (omega arith) refl told)
 
 pub returns : goal.returns

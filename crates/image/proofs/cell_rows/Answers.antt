@@ -2,7 +2,7 @@
 -- Assumes nothing.
 use native.Mathlib.Omega.{arith}
 use mathlib.Core.Path.{◌≡◌, refl}
-use Prim.Native.Nat.{◌+◌, ◌*◌, ◌-◌}
+use Prim.Native.Nat.{◌+◌, ◌*◌}
 use Rattle.image.specs.Image.{row_in}
 use Rattle.image.proofs.Rows.{upto_none, upto_more, upto_all}
 use Rattle.image.proofs.cell_rows.Goals as goal

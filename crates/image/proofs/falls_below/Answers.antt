@@ -3,9 +3,9 @@
 use borrow.Author.Count.{below_more}
 use native.Mathlib.Omega.{arith}
 use lib.ListN.{get_or}
-use mathlib.Core.Bool.{false, false≢true}
+use mathlib.Core.Bool.{false≢true}
 use mathlib.Core.Path.{sym, ◌∙◌}
-use Prim.Native.Nat.{◌+◌, ◌≤◌, ◌-◌}
+use Prim.Native.Nat.{◌+◌, ◌≤◌}
 use Rattle.image.proofs.falls_below.Goals as goal
 use Rattle.image.proofs.falls_below.Goals.{then-image-from, else-image-from}
 
@@ -17,7 +17,7 @@ loop-i-preserved c =
     let a = c.args in
     let l = c.loop-i in
     elim c.if-image-from.branch [
-      then-image-from w ↦ (omega arith, λ e. absurd (false≢true (sym e ∙ w.below-is)))
+      | then-image-from w ↦ (omega arith, λ e. absurd (false≢true (sym e ∙ w.below-is)))
       | else-image-from w ↦
           (omega arith, λ e. below_more (λ k. a.bound ≤ get_or a.image.now (a.from + k) 0) l.i (l.invariant.1 (sym w.below-is ∙ e)) (omega (arith, w)))
     ]

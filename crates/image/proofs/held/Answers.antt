@@ -6,7 +6,7 @@ use lib.Bits.{bit_or, or_add_and, and_le_l, and_le_r}
 use lib.ListN.{get_or}
 use mathlib.Core.List.{List}
 use mathlib.Core.Path.{◌≡◌, ap}
-use Prim.Native.Nat.{ℕ, ◌+◌, ◌<◌, ◌≤◌, ◌-◌, ◌%◌}
+use Prim.Native.Nat.{ℕ, ◌+◌, ◌<◌, ◌≤◌, ◌%◌}
 use Rattle.image.specs.Steps.{spared_in, Under}
 use Rattle.image.proofs.held.Invariants.{HeldAt}
 use Rattle.image.proofs.held.Goals as goal

@@ -3,7 +3,7 @@
 use Rattle.image.proofs.Strides.{whole_more}
 use native.Mathlib.Omega.{arith}
 use lib.ListN.{get_or}
-use Prim.Native.Nat.{ℕ, ◌+◌, ◌<◌, ◌≤◌, ◌-◌}
+use Prim.Native.Nat.{ℕ, ◌+◌, ◌<◌, ◌≤◌}
 use Rattle.image.specs.Image.{least_at}
 use Rattle.image.proofs.whole_strides.Goals as goal
 

@@ -6,6 +6,6 @@ use mathlib.Core.List.{List}
 use Rattle.port.proofs.kept.Goals as goal
 
 pub returns : goal.returns
-returns c =    let a = c.args.port in
+returns c = let a = c.args.port in
     let words = c.keep_words.ensures in
     ap (λ (ws : List ℕ). record { address = a.address % 64; attribute = a.attribute % 16; character = a.character % 64; words = ws }) words

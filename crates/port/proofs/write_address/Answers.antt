@@ -6,6 +6,6 @@ use Prim.Native.Nat.{◌%◌}
 use Rattle.port.proofs.write_address.Goals as goal
 
 pub returns : goal.returns
-returns c =    let byte = c.args.byte in
+returns c = let byte = c.args.byte in
     let kept = c.kept-after.ensures in
     ap (λ (q : Port). record { address = byte % 64; attribute = q.attribute; character = q.character; words = q.words }) kept

@@ -1,6 +1,5 @@
 -- `wave::lay_on` meets its contract: after i bytes they are the wave from the first position on, and the others as they came.
 -- Assumes nothing.
-use Prim.Native.Nat.{◌-◌}
 use native.Mathlib.Omega.{arith}
 use Rattle.wave.proofs.Within.{lays_most, begun_none, begun_whole, begun_all, begun_rest}
 use Rattle.wave.proofs.lay_on.Goals as goal

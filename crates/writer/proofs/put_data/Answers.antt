@@ -1,7 +1,7 @@
 -- `writer::put_data`. Both loops keep that the bytes due so far are spelled, with their sum; the second goes on from where the first
 -- stopped.
 -- Assumes nothing.
-use Rattle.std.proofs.Common.{◌-◌, ◌<◌, refl, ◌∙◌, arith}
+use Rattle.std.proofs.Common.{◌<◌, refl, ◌∙◌, arith}
 use Rattle.image.proofs.Turning.{font_length, font_row_law}
 use Rattle.writer.specs.Steps.{count_of_rows}
 use Rattle.writer.proofs.Spelling.{spelled_none, spelled_more, spelled_all}

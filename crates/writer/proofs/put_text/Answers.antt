@@ -1,6 +1,6 @@
 -- `writer::put_text`. The loop keeps that the lines of the records so far stand at the front of the text; the end record's line follows.
 -- Assumes nothing.
-use Rattle.std.proofs.Common.{◌-◌, arith}
+use Rattle.std.proofs.Common.{arith}
 use Rattle.writer.proofs.Spelling.{lined_none, lined_more, lined_all}
 use Rattle.writer.proofs.put_text.Goals as goal
 
