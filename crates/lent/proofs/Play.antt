@@ -7,18 +7,19 @@ use Prim.Native.Nat.{ℕ, ◌<◌, ◌^◌}
 use mathlib.Core.List.{[], ◌∷◌, List}
 use lib.ListN.{length}
 use seplogic.Ra.Ura.{Ura}
-use seplogic.Ra.TreeShare.{full_share}
-use mir.Syntax.{Name, Fn, local, value_local, place, copy, rv_opd, assign, aggregate, addr_of, field, erased, call, seq, return, deref, mut, ty_ref, ty_int, named, w8, w32}
+use base.Fraction.{full_share}
+use mir.Syntax.{Callee, Fn, local, value_local, place, copy, rv_opd, assign, aggregate, addr_of, field, erased, call, seq, return, deref, mut, ty_ref, ty_int, named, w8, w32}
 use mir.Val.{Val, vint, vptr}
 use base.Logic.{SProp, ent, emp, via, fst∗, snd∗, ex_e, id⊢}
-use base.Fml.{GName, Lft, Share, ftrue, fat, flft, fobs, fbor}
+use base.Fml.{Fml, GName, Lft, Share, ftrue, fat, fsep, flft, fobs, fbor}
 use prog.Wp.{Calls, Loops, WpFn, Tables}
 use types.Logic.{Logic, sem}
 use contract.Monad.{fact}
 use types.Kit.{‵, raw, some, later, ◌⊛◌, ⋆, ◌$◌, ◌∵◌, !, qed, by, move, keep, drop, use1, use3, split, join, pick, rewrite, feq_l, fsplit, fsplit3, fjoin, fjoin3, feq_i, suffices, frame, await, done}
 use types.Run.{look, look_raw, addr, fld, init, store_raw, forget, stop, hop, from, load, of_opd, and_then, no_more, assigns, land, returns, enter, alloc1, alloc0, params1, pass1, pass0, free1, free0}
 use types.Part.{agg, whole, sub, look_in}
-use types.SemTy.{Body}
+use types.SemTy.{Body, Arr}
+use types.Hole.{Holey}
 use sound.WpLaws.{FmC, fm_of, WpFn-mono}
 use denote.RattleType.{RattleType, owns}
 use denote.Laws.{Is, shows}
@@ -94,20 +95,23 @@ tell_step = record {
 abbrev play_stays : Stays play_lent.signature.params play_lent.kept
 play_stays = (stay_ref (0 ∷ []) tt (plain (λ _. R)), (stay_none (λ _. u32) yes, (gave_slice (1 ∷ []) tt (plain (λ _. u8)), tt)))
 
-abbrev play_code : Name → Name → Fn
+abbrev play_code : Callee → Callee → Fn
 play_code g h = record {
   lifetimes = 2;
   outlives = [];
+  ty_params = [];
+  givens = 0;
   params = 3;
   locals = local P'.mir value_local ∷ local (ty_ref (named 0) mut (pointee R.written)) value_local ∷ local (ty_int w32) value_local ∷ local (slice_ty (ty_ref (named 1) mut (ty_int w8))) value_local
-      ∷ local T'.mir value_local ∷ local S'.mir value_local ∷ local E'.mir value_local ∷ local (ty_ref erased mut (ty_int w8)) value_local ∷ local (slice_ty (ty_ref erased mut (ty_int w8))) value_local ∷ [];
+      ∷ local T'.mir value_local ∷ local S'.mir value_local ∷ local E'.mir value_local ∷ local (ty_ref erased mut (ty_int w8)) value_local ∷ local (slice_ty (ty_ref erased mut (ty_int w8))) value_local ∷ local T'.mir value_local ∷ [];
   body = seq (assign (place 4 []) (rv_opd (copy (place 1 (deref T'.mir ∷ [])))))
       (seq (assign (place 7 []) (addr_of (place 3 (field 0 ∷ deref (ty_int w8) ∷ []))))
       (seq (assign (place 8 []) (aggregate (copy (place 7 []) ∷ copy (place 3 (field 1 ∷ [])) ∷ [])))
       (seq (call g (copy (place 4 []) ∷ copy (place 2 []) ∷ copy (place 8 []) ∷ []) (place 5 []))
-      (seq (assign (place 1 (deref T'.mir ∷ [])) (rv_opd (copy (place 5 (field 0 ∷ [])))))
+      (seq (assign (place 9 []) (rv_opd (copy (place 5 (field 0 ∷ [])))))
+      (seq (assign (place 1 (deref T'.mir ∷ [])) (rv_opd (copy (place 9 []))))
       (seq (assign (place 6 []) (rv_opd (copy (place 5 (field 1 ∷ [])))))
-      (seq (call h (copy (place 6 []) ∷ []) (place 0 [])) return))))));
+      (seq (call h (copy (place 6 []) ∷ []) (place 0 [])) return)))))));
 }
 
 -- what the function says of the record before, the clocks and the bytes lent, and of the record after, the answer and the bytes then
@@ -135,7 +139,7 @@ module _ (Tells : Played → Answer → Type 0) {M : Type 1} (𝓤 : Ura M) wher
 
 module _ (Says : Dac → ℕ → List ℕ → Dac → Played → List ℕ → Type 0) (Tells : Played → Answer → Type 0) (Claims : Dac → ℕ → List ℕ → Dac → Answer → List ℕ → Type 0)
     (so : (before : Dac) (n : ℕ) (lent : List ℕ) (after : Dac) (case : Played) (answer : Answer) (now : List ℕ) → Says before n lent after case now → Tells case answer → Claims before n lent after answer now)
-    (g h : Name) {M : Type 1} {𝓤 : Ura M} (𝓛 : Logic 𝓤)
+    (g h : Callee) {M : Type 1} {𝓤 : Ura M} (𝓛 : Logic 𝓤)
     (κ κ' : Lft) (q q' : Share) (b o : ℕ) (γ : GName) (d : Dac) (n : ℕ) (n_fits : n < 2 ^ 32) (b' o' : ℕ) (γ' : GName) (s : List ℕ) (room : Room u8 (length s)) where
   open 𝓛 use {H}
 
@@ -154,10 +158,14 @@ module _ (Says : Dac → ℕ → List ℕ → Dac → Played → List ℕ → Ty
   abbrev PlayEnd : Val → SProp 𝓤
   PlayEnd = (walk_of 𝓛 play_lent play_stays (play_promise Claims 𝓤)).post (((κ, (κ', tt)), (q, (q', tt)), tt, play_args, play_vals), tt)
 
+  -- the bytes lent, once the step is done with them: their last values, and the loan, closed
+  abbrev given_back : List ℕ → Fml
+  given_back s' = fsep (finally u8 γ' s') (fbor κ' (Body (Arr (Holey (mem u8)) (length s)) b' o' γ'))
+
   play_ends : (after : Dac) (answer : Answer) (v : Val) (s' : List ℕ) → Claims d n s after answer s' → length s' ≡ length s → Is P.the_row answer (v ∷ [])
-      → ent 𝓤 (⋆ 𝓛 (‵ (fobs γ (R.coded.code after)) ∷ ‵ (fbor κ (Body (mem R) b o γ)) ∷ ‵ (flft κ q) ∷ (‵ (flft κ' q') ⊛ ‵ ftrue) ∷ ‵ (finally u8 γ' s') ∷ [])) (PlayEnd v)
+      → ent 𝓤 (⋆ 𝓛 (‵ (fobs γ (R.coded.code after)) ∷ ‵ (fbor κ (Body (mem R) b o γ)) ∷ ‵ (flft κ q) ∷ (‵ (flft κ' q') ⊛ ‵ ftrue) ∷ ‵ (given_back s') ∷ [])) (PlayEnd v)
   play_ends after answer v s' e l is =
-      qed 𝓛 (‵ (fobs γ (R.coded.code after)) ∷ ‵ (fbor κ (Body (mem R) b o γ)) ∷ ‵ (flft κ q) ∷ (‵ (flft κ' q') ⊛ ‵ ftrue) ∷ ‵ (finally u8 γ' s') ∷ []) ∵
+      qed 𝓛 (‵ (fobs γ (R.coded.code after)) ∷ ‵ (fbor κ (Body (mem R) b o γ)) ∷ ‵ (flft κ q) ∷ (‵ (flft κ' q') ⊛ ‵ ftrue) ∷ ‵ (given_back s') ∷ []) ∵
       suffices ! _ (ends_at 𝓛 play_lent play_stays (play_promise Claims 𝓤) (((κ, (κ', tt)), (q, (q', tt)), tt, play_args, play_vals), tt) v answer (after, (tt, (s', tt))) (tt, (tt, (l, tt)))) $
       says ! e $ move ! (2 ∷ 3 ∷ []) $ join ! $ frame ! $
       feq_i ! (List Val) (vptr b o ∷ []) (vptr b o ∷ []) refl $ fjoin3 ! $ nothing ! $ move ! (2 ∷ 0 ∷ []) $ fjoin ! $
@@ -199,50 +207,51 @@ module _ (Says : Dac → ℕ → List ℕ → Dac → Played → List ℕ → Ty
         split ! $ move ! (2 ∷ []) $ fsplit ! $ fsplit3 ! $ drop ! $ move ! (2 ∷ []) $ fsplit ! $ drop ! $ fsplit ! $ move ! (2 ∷ 3 ∷ 4 ∷ 5 ∷ 0 ∷ []) $
         -- [what the host will see; the loan; its token; the bytes' token; the bytes; ..]
         enter ! C Λ (play_code g h) (vptr b o ∷ vint w32 n ∷ slice ∷ []) _ $
-        alloc1 ! (λ l₀. alloc1 ! (λ l₁. alloc1 ! (λ l₂. alloc1 ! (λ l₃. alloc1 ! (λ l₄. alloc1 ! (λ l₅. alloc1 ! (λ l₆. alloc1 ! (λ l₇. alloc1 ! (λ l₈. alloc0 ! $ params1 ! $
-        pass1 ! (init ! 14 refl (tt, tt)) $ pass1 ! (init ! 12 refl (tt, record { fits = n_fits })) $ pass1 ! (init ! 10 refl (tt, (tt, (record { fits = room.0 }, tt)))) $ pass0 ! $
+        alloc1 ! (λ l₀. alloc1 ! (λ l₁. alloc1 ! (λ l₂. alloc1 ! (λ l₃. alloc1 ! (λ l₄. alloc1 ! (λ l₅. alloc1 ! (λ l₆. alloc1 ! (λ l₇. alloc1 ! (λ l₈. alloc1 ! (λ l₉. alloc0 ! $ params1 ! $
+        pass1 ! (init ! 16 refl (tt, tt)) $ pass1 ! (init ! 14 refl (tt, record { fits = n_fits })) $ pass1 ! (init ! 12 refl (tt, (tt, (record { fits = room.0 }, tt)))) $ pass0 ! $
         -- open the loan, copy the record out, and pass the bytes on
-        move ! (18 ∷ 19 ∷ 20 ∷ []) $ opens ! tt R {h = d} b o (λ vs.
+        move ! (20 ∷ 21 ∷ 22 ∷ []) $ opens ! tt R {h = d} b o (λ vs.
         spelt ! R (Is R) (shows 𝓛 R) held_as (LL.tells T.the_type T'.the_laws) full_share d vs b o $
         move ! (1 ∷ []) $ peeks ! R (Is R) (shows 𝓛 R) d (held_as d) (λ was. move ! (1 ∷ 0 ∷ []) $
-        -- [the record's memory; the record; the open loan; what the host will see; its other half; _8, .. _1; room for _0; the bytes' token; the bytes]
-        assigns ! (of_opd ! (load ! (from ! (hop ! (look ! 19 refl) (stop !))) (look_raw ! 0 refl))) (from ! (stop !)) (init ! 13 refl ((LL.lawful T.the_type T'.the_laws 𝓛).typed d _ was).0) $
-        assigns ! (addr ! (from ! (fld ! refl (hop ! (look_in ! 15 (sub ! 0 refl (whole !))) (stop !))))) (from ! (stop !)) (init ! 7 refl (tt, tt)) $
-        assigns ! (agg ! (and_then ! (load ! (from ! (stop !)) (look ! 7 refl)) (and_then ! (load ! (from ! (fld ! refl (stop !))) (look_in ! 15 (sub ! 1 refl (whole !)))) (no_more !)))) (from ! (stop !)) (init ! 5 refl (tt, (tt, (record { fits = room.0 }, tt)))) $
+        -- [the record's memory; the record; the open loan; what the host will see; its other half; _9, .. _1; room for _0; the bytes' token; the bytes]
+        assigns ! (of_opd ! (load ! (from ! (hop ! (look ! 21 refl) (stop !))) (look_raw ! 0 refl))) (from ! (stop !)) (init ! 15 refl ((LL.lawful T.the_type T'.the_laws 𝓛).typed d _ was).0) $
+        assigns ! (addr ! (from ! (fld ! refl (hop ! (look_in ! 17 (sub ! 0 refl (whole !))) (stop !))))) (from ! (stop !)) (init ! 9 refl (tt, tt)) $
+        assigns ! (agg ! (and_then ! (load ! (from ! (stop !)) (look ! 9 refl)) (and_then ! (load ! (from ! (fld ! refl (stop !))) (look_in ! 17 (sub ! 1 refl (whole !)))) (no_more !)))) (from ! (stop !)) (init ! 7 refl (tt, (tt, (record { fits = room.0 }, tt)))) $
         -- the step
-        move ! (23 ∷ 24 ∷ 1 ∷ []) $ use3 𝓛 (raw ((PlayStep Says 𝓤 𝓛).pre play_given)) play_gives $
-        calls_at ! fm (PlayStep Says 𝓤 𝓛) known play_given (and_then ! (load ! (from ! (stop !)) (look ! 13 refl)) (and_then ! (load ! (from ! (stop !)) (look ! 17 refl)) (and_then ! (load ! (from ! (stop !)) (look ! 5 refl)) (no_more !)))) (λ w.
+        move ! (25 ∷ 26 ∷ 1 ∷ []) $ use3 𝓛 (raw ((PlayStep Says 𝓤 𝓛).pre play_given)) play_gives $
+        calls_at ! fm (PlayStep Says 𝓤 𝓛) known play_given (and_then ! (load ! (from ! (stop !)) (look ! 15 refl)) (and_then ! (load ! (from ! (stop !)) (look ! 19 refl)) (and_then ! (load ! (from ! (stop !)) (look ! 7 refl)) (no_more !)))) (λ w.
         use1 𝓛 (later (some (λ (r : Outcome). ((‵ (flft κ' q') ⊛ ‵ ftrue) ⊛ ‵ ((S.the_row).own_val r (w ∷ []))) ⊛ raw (ensured 𝓛 play_step (play_step_promise Says 𝓤) (κ', tt) (d, (n, (lent, tt))) tt r)))) (id⊢ 𝓤 _) $
         await ! tt $ pick ! (λ r. split ! $ move ! (1 ∷ []) $
         use1 𝓛 (some (λ (ss : Unit {0} × (Unit {0} × (List ℕ × Unit {0}))). ‵ (lasts play_step (κ', tt) (d, (n, (lent, tt))) ss) ⊛ raw (fact 𝓤 (Says d n s r.after r.answer ss.1.1.0)))) (id⊢ 𝓤 _) $ pick ! (λ ss.
         split ! $ move ! (1 ∷ []) $ heard ! (Says d n s r.after r.answer ss.1.1.0) (λ e.
-        fsplit ! $ drop ! $ fsplit ! $ drop ! $ fsplit ! $ fsplit ! $ move ! (1 ∷ []) $ feq_l ! (λ l.
+        fsplit ! $ drop ! $ fsplit ! $ drop ! $ fsplit ! $ fsplit ! $ fsplit ! $ move ! (1 ∷ []) $ feq_l ! (λ l. fjoin ! $
         move ! (2 ∷ []) $ split ! $ move ! (1 ∷ []) $ peeks ! S.the_row (Is S.the_row) (shows 𝓛 S.the_row) r (w ∷ []) (λ is.
-        land ! (from ! (stop !)) (init ! 14 refl ((LL.lawful S.the_type S'.the_laws 𝓛).typed r _ is).0) $
-        -- [what the step gave; the bytes' token; the bytes at last; ..; the record's memory; the open loan; ..; _8, ..]: take it apart and store the record
-        rewrite ! 14 (λ (u : Val). ‵ (fat full_share S'.mir l₅ 0 u)) (ap only (LL.tells S.the_type S'.the_laws r _ is)) refl $
-        assigns ! (of_opd ! (load ! (from ! (fld ! refl (stop !))) (look_in ! 14 (sub ! 0 refl (whole !))))) (from ! (hop ! (look ! 22 refl) (stop !))) (store_raw ! 4 refl ((LL.lawful T.the_type T'.the_laws 𝓛).typed r.after _ (after_is r w is)).0) $
-        assigns ! (of_opd ! (load ! (from ! (fld ! refl (stop !))) (look_in ! 14 (sub ! 1 refl (whole !))))) (from ! (stop !)) (init ! 12 refl ((EL.lawful E.the_type E'.the_laws 𝓛 tt).typed r.answer _ (case_is r w is)).0) $
+        land ! (from ! (stop !)) (init ! 16 refl ((LL.lawful S.the_type S'.the_laws 𝓛).typed r _ is).0) $
+        -- [what the step gave; the bytes' token; the bytes at last; ..; the record's memory; the open loan; ..; _9, ..]: take it apart, copy the record into _9, and store it
+        rewrite ! 16 (λ (u : Val). ‵ (fat full_share S'.mir l₅ 0 u)) (ap only (LL.tells S.the_type S'.the_laws r _ is)) refl $
+        assigns ! (of_opd ! (load ! (from ! (fld ! refl (stop !))) (look_in ! 16 (sub ! 0 refl (whole !))))) (from ! (stop !)) (init ! 8 refl ((LL.lawful T.the_type T'.the_laws 𝓛).typed r.after _ (after_is r w is)).0) $
+        assigns ! (of_opd ! (load ! (from ! (stop !)) (look ! 8 refl))) (from ! (hop ! (look ! 24 refl) (stop !))) (store_raw ! 4 refl ((LL.lawful T.the_type T'.the_laws 𝓛).typed r.after _ (after_is r w is)).0) $
+        assigns ! (of_opd ! (load ! (from ! (fld ! refl (stop !))) (look_in ! 16 (sub ! 1 refl (whole !))))) (from ! (stop !)) (init ! 14 refl ((EL.lawful E.the_type E'.the_laws 𝓛 tt).typed r.answer _ (case_is r w is)).0) $
         -- the telling, given the case in the place of what the step gave
         drop ! $ owned ! E.the_row (Is E.the_row) (EL.makes E.the_type E'.the_plain 𝓛) r.answer _ (case_is r w is) $
         use1 𝓛 (raw ((TellStep Tells 𝓤 𝓛).pre (tell_given r.answer))) (tell_gives r.answer) $
-        calls_at ! fm (TellStep Tells 𝓤 𝓛) tells (tell_given r.answer) (and_then ! (load ! (from ! (stop !)) (look ! 12 refl)) (no_more !)) (λ v.
+        calls_at ! fm (TellStep Tells 𝓤 𝓛) tells (tell_given r.answer) (and_then ! (load ! (from ! (stop !)) (look ! 14 refl)) (no_more !)) (λ v.
         use1 𝓛 (later (some (λ (a : Answer). (‵ ftrue ⊛ ‵ ((P.the_row).own_val a (v ∷ []))) ⊛ raw (ensured 𝓛 tell_step (tell_step_promise Tells 𝓤) tt (r.answer, tt) tt a)))) (id⊢ 𝓤 _) $
         await ! tt $ pick ! (λ a. split ! $ move ! (1 ∷ []) $
         use1 𝓛 (raw (fact 𝓤 (Tells r.answer a))) (tell_learns r.answer a) $ heard ! (Tells r.answer a) (λ t. split ! $ drop ! $
         peeks ! P.the_row (Is P.the_row) (shows 𝓛 P.the_row) a (v ∷ []) (λ tells_so.
-        land ! (from ! (stop !)) (init ! 24 refl ((LL.lawful P.the_type P'.the_laws 𝓛).typed a _ tells_so).0) $
-        -- [the answer; the bytes' token; the bytes at last; ..; the record's memory; the open loan; ..; _8, ..]: close the loan at the record stored
+        land ! (from ! (stop !)) (init ! 26 refl ((LL.lawful P.the_type P'.the_laws 𝓛).typed a _ tells_so).0) $
+        -- [the answer; the bytes' token; the bytes at last; ..; the record's memory; the open loan; ..; _9, ..]: close the loan at the record stored
         drop ! $ owned ! R (Is R) (LL.makes T.the_type T'.the_plain 𝓛) r.after _ (after_is r w is) $
         move ! (4 ∷ 0 ∷ 5 ∷ 6 ∷ 7 ∷ []) $ closes ! tt R r.after (held_as r.after) b o $
-        returns ! (look ! 22 refl) $ forget ! 6 refl $ forget ! 8 refl $ forget ! 10 refl $ forget ! 12 refl $ forget ! 14 refl $ forget ! 16 refl $ forget ! 18 refl $ forget ! 20 refl $ forget ! 22 refl $
-        move ! (22 ∷ 23 ∷ []) $ free1 ! $ move ! (20 ∷ 21 ∷ []) $ free1 ! $ move ! (18 ∷ 19 ∷ []) $ free1 ! $ move ! (16 ∷ 17 ∷ []) $ free1 ! $ move ! (14 ∷ 15 ∷ []) $ free1 ! $
+        returns ! (look ! 24 refl) $ forget ! 6 refl $ forget ! 8 refl $ forget ! 10 refl $ forget ! 12 refl $ forget ! 14 refl $ forget ! 16 refl $ forget ! 18 refl $ forget ! 20 refl $ forget ! 22 refl $ forget ! 24 refl $
+        move ! (24 ∷ 25 ∷ []) $ free1 ! $ move ! (22 ∷ 23 ∷ []) $ free1 ! $ move ! (20 ∷ 21 ∷ []) $ free1 ! $ move ! (18 ∷ 19 ∷ []) $ free1 ! $ move ! (16 ∷ 17 ∷ []) $ free1 ! $ move ! (14 ∷ 15 ∷ []) $ free1 ! $
         move ! (12 ∷ 13 ∷ []) $ free1 ! $ move ! (10 ∷ 11 ∷ []) $ free1 ! $ move ! (8 ∷ 9 ∷ []) $ free1 ! $ move ! (6 ∷ 7 ∷ []) $ free1 ! $ free0 ! $
-        keep ! (0 ∷ 1 ∷ 2 ∷ 3 ∷ 4 ∷ []) $ by ! (play_ends r.after a v ss.1.1.0 (so d n s r.after r.answer a ss.1.1.0 e t) l tells_so))))))))))))))))))))))
+        keep ! (0 ∷ 1 ∷ 2 ∷ 3 ∷ 4 ∷ []) $ by ! (play_ends r.after a v ss.1.1.0 (so d n s r.after r.answer a ss.1.1.0 e t) l tells_so)))))))))))))))))))))))
 
 module _ (Says : Dac → ℕ → List ℕ → Dac → Played → List ℕ → Type 0) (Tells : Played → Answer → Type 0) (Claims : Dac → ℕ → List ℕ → Dac → Answer → List ℕ → Type 0)
     (so : (before : Dac) (n : ℕ) (lent : List ℕ) (after : Dac) (case : Played) (answer : Answer) (now : List ℕ) → Says before n lent after case now → Tells case answer → Claims before n lent after answer now)
-    (g h : Name) {M : Type 1} {𝓤 : Ura M} (𝓛 : Logic 𝓤) where
+    (g h : Callee) {M : Type 1} {𝓤 : Ura M} (𝓛 : Logic 𝓤) where
   open 𝓛 use {H}
 
   play_walks : (C : Calls 𝓤 H) (Λ : Loops 𝓤 H) → FmC 𝓤 H 𝓛.laws C → Triple 𝓤 (C g) (PlayStep Says 𝓤 𝓛) → Triple 𝓤 (C h) (TellStep Tells 𝓤 𝓛) → Walks 𝓛 play_lent play_stays (WpFn 𝓤 H C Λ (play_code g h)) (play_promise Claims 𝓤)

@@ -5,8 +5,8 @@ use mathlib.Core.Path.{refl}
 use Prim.Native.Nat.{ℕ}
 use mathlib.Core.List.{[], ◌∷◌, List}
 use seplogic.Ra.Ura.{Ura}
-use seplogic.Ra.TreeShare.{full_share}
-use mir.Syntax.{Name, Fn, Ty, local, value_local, place, copy, rv_opd, opd_unit, assign, call, seq, return, deref, mut, ty_ref, ty_unit, named}
+use base.Fraction.{full_share}
+use mir.Syntax.{Callee, Fn, Ty, local, value_local, place, copy, rv_opd, opd_unit, assign, call, seq, return, deref, mut, ty_ref, ty_unit, named}
 use mir.Val.{Val, vunit, vptr}
 use base.Logic.{SProp, ent, sep, emp, via, fst∗, snd∗, ex_e, id⊢}
 use base.Fml.{GName, Lft, Share, ftrue, flft, fobs, fbor}
@@ -55,10 +55,12 @@ module _ (T : Declared) where
   abbrev reset_stays : Stays reset_lent.signature.params reset_lent.kept
   reset_stays = (stay_ref (0 ∷ []) tt (plain (λ _. R)), tt)
 
-  abbrev reset_code : Name → Fn
+  abbrev reset_code : Callee → Fn
   reset_code g = record {
     lifetimes = 1;
     outlives = [];
+    ty_params = [];
+    givens = 0;
     params = 1;
     locals = local ty_unit value_local ∷ local (ty_ref (named 0) mut (pointee R.written)) value_local ∷ local laid value_local ∷ [];
     body = seq (call g [] (place 2 []))
@@ -78,7 +80,7 @@ module _ (T : Declared) where
       abbrev pub ResetStep : Contract 𝓤
       ResetStep = triple_of 𝓛 reset_step.signature (closing 𝓛 reset_step reset_step_promise)
 
-  module _ (L : LL.Laws T) (Says Claims : T.D → Type 0) (so : (after : T.D) → Says after → Claims after) (g : Name) {M : Type 1} {𝓤 : Ura M} (𝓛 : Logic 𝓤)
+  module _ (L : LL.Laws T) (Says Claims : T.D → Type 0) (so : (after : T.D) → Says after → Claims after) (g : Callee) {M : Type 1} {𝓤 : Ura M} (𝓛 : Logic 𝓤)
       (κ : Lft) (q : Share) (b o : ℕ) (γ : GName) (d : T.D) where
     open 𝓛 use {H, A}
 
@@ -135,7 +137,7 @@ module _ (T : Declared) where
           move ! (8 ∷ 9 ∷ []) $ free1 ! $ move ! (6 ∷ 7 ∷ []) $ free1 ! $ move ! (4 ∷ 5 ∷ []) $ free1 ! $ free0 ! $
           keep ! (0 ∷ 1 ∷ 2 ∷ []) $ by ! (reset_ends r (so r e))))))))))
 
-  module _ (L : LL.Laws T) (Says Claims : T.D → Type 0) (so : (after : T.D) → Says after → Claims after) (g : Name) {M : Type 1} {𝓤 : Ura M} (𝓛 : Logic 𝓤) where
+  module _ (L : LL.Laws T) (Says Claims : T.D → Type 0) (so : (after : T.D) → Says after → Claims after) (g : Callee) {M : Type 1} {𝓤 : Ura M} (𝓛 : Logic 𝓤) where
     open 𝓛 use {H}
 
     reset_walks : (C : Calls 𝓤 H) (Λ : Loops 𝓤 H) → FmC 𝓤 H 𝓛.laws C → Triple 𝓤 (C g) (ResetStep Says 𝓤 𝓛) → Walks 𝓛 reset_lent reset_stays (WpFn 𝓤 H C Λ (reset_code g)) (reset_promise Claims 𝓤)

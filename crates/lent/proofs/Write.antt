@@ -1,16 +1,16 @@
 -- A write over a record that a host lends: it opens the loan, hands a copy of the record to the step by value, stores the record that
 -- comes back, and closes the loan at it; so what the step promises of its record is true of the record lent.
 --     fn f(d: &mut S, byte: u8) { let before = *d; *d = g(before, byte); }
--- The walk has the struct, as `the_type` T and `the_laws` L that the kit makes for it, the step's name g, its promise `Says` and the function's own,
--- `Claims`, as parameters. It does not look into the fields: a struct of any fields will do, arrays too.
+-- The walk has the struct, as `the_type` T and `the_laws` L that the kit makes for it, the step g, as any callee that a call names, its promise `Says` and the function's
+-- own, `Claims`, as parameters. It does not look into the fields: a struct of any fields will do, arrays too.
 -- In a walk a comment in brackets is the row of what is owned there, from the front; `_n` is local n with its memory, two entries each.
 -- Assumes nothing.
 use mathlib.Core.Path.{refl}
 use Prim.Native.Nat.{ℕ, ◌<◌, ◌^◌}
 use mathlib.Core.List.{[], ◌∷◌, List}
 use seplogic.Ra.Ura.{Ura}
-use seplogic.Ra.TreeShare.{full_share}
-use mir.Syntax.{Name, Fn, Ty, local, value_local, place, copy, rv_opd, opd_unit, assign, call, seq, return, deref, mut, ty_ref, ty_int, ty_unit, named, w8}
+use base.Fraction.{full_share}
+use mir.Syntax.{Callee, Fn, Ty, local, value_local, place, copy, rv_opd, opd_unit, assign, call, seq, return, deref, mut, ty_ref, ty_int, ty_unit, named, w8}
 use mir.Val.{Val, vunit, vint, vptr}
 use base.Logic.{SProp, ent, sep, emp, via, fst∗, snd∗, ex_e, id⊢}
 use base.Fml.{GName, Lft, Share, ftrue, flft, fobs, fbor}
@@ -63,10 +63,12 @@ module _ (T : Declared) where
   abbrev write_stays : Stays write_lent.signature.params write_lent.kept
   write_stays = (stay_ref (0 ∷ []) tt (plain (λ _. R)), (stay_none (λ _. u8) yes, tt))
 
-  abbrev write_code : Name → Fn
+  abbrev write_code : Callee → Fn
   write_code g = record {
     lifetimes = 1;
     outlives = [];
+    ty_params = [];
+    givens = 0;
     params = 2;
     locals = local ty_unit value_local ∷ local (ty_ref (named 0) mut (pointee R.written)) value_local ∷ local (ty_int w8) value_local ∷ local laid value_local ∷ local laid value_local ∷ [];
     body = seq (assign (place 3 []) (rv_opd (copy (place 1 (deref laid ∷ [])))))
@@ -87,7 +89,7 @@ module _ (T : Declared) where
       abbrev pub WriteStep : Contract 𝓤
       WriteStep = triple_of 𝓛 write_step.signature (closing 𝓛 write_step write_step_promise)
 
-  module _ (L : LL.Laws T) (Says Claims : T.D → ℕ → T.D → Type 0) (so : (before : T.D) (n : ℕ) (after : T.D) → Says before n after → Claims before n after) (g : Name) {M : Type 1} {𝓤 : Ura M} (𝓛 : Logic 𝓤)
+  module _ (L : LL.Laws T) (Says Claims : T.D → ℕ → T.D → Type 0) (so : (before : T.D) (n : ℕ) (after : T.D) → Says before n after → Claims before n after) (g : Callee) {M : Type 1} {𝓤 : Ura M} (𝓛 : Logic 𝓤)
       (κ : Lft) (q : Share) (b o : ℕ) (γ : GName) (d : T.D) (n : ℕ) (n_fits : n < 2 ^ 8) where
     open 𝓛 use {H, A}
 
@@ -152,7 +154,7 @@ module _ (T : Declared) where
           move ! (11 ∷ 12 ∷ []) $ free1 ! $ move ! (9 ∷ 10 ∷ []) $ free1 ! $ move ! (7 ∷ 8 ∷ []) $ free1 ! $ move ! (5 ∷ 6 ∷ []) $ free1 ! $ move ! (3 ∷ 4 ∷ []) $ free1 ! $ free0 ! $
           keep ! (0 ∷ 1 ∷ 2 ∷ []) $ by ! (write_ends r (so d n r e)))))))))))))
 
-  module _ (L : LL.Laws T) (Says Claims : T.D → ℕ → T.D → Type 0) (so : (before : T.D) (n : ℕ) (after : T.D) → Says before n after → Claims before n after) (g : Name) {M : Type 1} {𝓤 : Ura M} (𝓛 : Logic 𝓤) where
+  module _ (L : LL.Laws T) (Says Claims : T.D → ℕ → T.D → Type 0) (so : (before : T.D) (n : ℕ) (after : T.D) → Says before n after → Claims before n after) (g : Callee) {M : Type 1} {𝓤 : Ura M} (𝓛 : Logic 𝓤) where
     open 𝓛 use {H}
 
     write_walks : (C : Calls 𝓤 H) (Λ : Loops 𝓤 H) → FmC 𝓤 H 𝓛.laws C → Triple 𝓤 (C g) (WriteStep Says 𝓤 𝓛) → Walks 𝓛 write_lent write_stays (WpFn 𝓤 H C Λ (write_code g)) (write_promise Claims 𝓤)
