@@ -199,9 +199,9 @@ divisible_case claim =
     (ap clocks (c.0 1 2 1 2 3 (omega arith) (omega arith) (omega arith) (omega arith)), ap clocks (c.1 5 4 refl), ap clocks (c.2 0))
 
 -- T of the period above, after the pair written into it
-pub at_end_case : Writable → AtEnd → (run all after_reset).high ≡ 320
+pub at_end_law_case : Writable → AtEnd → (run all after_reset).high ≡ 320
 unfolding moments moments_of last_low last_pair
-at_end_case writable claim = claim all (history before) after_first (its_period writable)
+at_end_law_case writable claim = claim all (history before) after_first (its_period writable)
 
 -- and the answer of its second play
 pub end_answered_case : Writable → EndAnswered → answer_of (run begun after_reset) 16383 16383 ≡ accepted 320
