@@ -1,5 +1,5 @@
 # make            the library for this processor, and the program, below target/
-# make check      the gate: everything proved from nothing, tried and compared (20 to 30 minutes on two cores)
+# make check      the gate: everything proved, tried and compared
 # make install    puts them, the header, the manual page, the pkg-config file, the guide and the samples below $(DESTDIR)$(PREFIX); builds nothing
 # make uninstall  takes away what install put there
 # make clean      takes away what make built; what is proved stays proved
@@ -17,9 +17,9 @@ LIBRARY = target/native/libdirgeflint.a
 PROGRAM = target/cli/dirgeflint
 HEADER = include/dirgeflint.h
 
-# The version stands in the header only. A must-fail edit is no part of the library.
+# The version stands in the header only. A must-fail edit is no part of the library, nor is what rt makes in a crate's out/.
 VERSION != sed -n 's/^.define DIRGEFLINT_VERSION "\(.*\)"/\1/p' $(HEADER)
-CRATES != find crates.txt crates \( -path '*/must-fail' -o -path '*/edits' \) -prune -o -type f -print
+CRATES != find crates.txt crates \( -path '*/must-fail' -o -path '*/edits' -o -path '*/out' \) -prune -o -type f -print
 CLI != echo cli/*.c cli/*.h
 
 PAGES = README.md CHANGELOG.md docs/GUIDE.md docs/SOURCES.md
@@ -39,7 +39,7 @@ all: $(LIBRARY) $(PROGRAM)
 # tools/native leaves the library as it is if the sources were but touched; then it counts as new, so as not to be asked again.
 $(LIBRARY): tools/native $(CRATES)
 	@command -v rt >/dev/null || { echo 'make: the program rt is not found: the Rattle kit, of which it is part, is needed to prove and build the library (README.md)' >&2; exit 1; }
-	@echo 'proving and compiling the library: about two minutes the first time'
+	@echo 'proving and compiling the library: minutes the first time'
 	tools/native dirgeflint
 	@touch $@
 
