@@ -3,9 +3,9 @@
 #![tactic(auto)]
 
 ghost use Rattle.std.specs.Prelude.{◌≡◌};
-ghost use Rattle.laws.specs.Said.{accepted as Said·accepted, refused as Said·refused};
-ghost use Rattle.image.specs.Image.{said as Image·said};
-ghost use Rattle.ihex.specs.Reading.{said as Hex·said};
+ghost use Rattle.laws.specs.Said.{accepted as said_accepted, refused as said_refused};
+ghost use Rattle.image.specs.Image.{said as image_said};
+ghost use Rattle.ihex.specs.Reading.{said as hex_said};
 ghost use Rattle.answer.specs.Told.{told};
 
 use ihex::Outcome;
@@ -22,7 +22,7 @@ pub struct Answer {
 
 // The answer of a call that was accepted.
 pub fn accepted(value: u32) -> Answer
-    ensures { told result ≡ Said·accepted value }
+    ensures { told result ≡ said_accepted value }
 {
     Answer {
         number: 0,
@@ -33,7 +33,7 @@ pub fn accepted(value: u32) -> Answer
 
 // The answer of a call that was refused.
 pub fn refused(number: u32, place: u32) -> Answer
-    ensures { told result ≡ Said·refused number place }
+    ensures { told result ≡ said_refused number place }
 {
     Answer {
         number,
@@ -44,7 +44,7 @@ pub fn refused(number: u32, place: u32) -> Answer
 
 // The answer of reading a text.
 pub fn read_answer(outcome: Outcome) -> Answer
-    ensures { told result ≡ Hex·said outcome }
+    ensures { told result ≡ hex_said outcome }
 {
     match outcome {
         Outcome::Done(count) => accepted(count),
@@ -62,7 +62,7 @@ pub fn read_answer(outcome: Outcome) -> Answer
 
 // The answer of turning an image into a font.
 pub fn turned_answer(turned: Turned) -> Answer
-    ensures { told result ≡ Image·said turned }
+    ensures { told result ≡ image_said turned }
 {
     match turned {
         Turned::Done => accepted(0),

@@ -4,7 +4,7 @@
 
 ghost use Rattle.std.specs.Prelude.{◌≡◌, length};
 ghost use Rattle.wave.specs.Wave.{over};
-ghost use Rattle.dac.specs.Running.{kept_pair, dac_of, kept as kept_of, after_reset, low_written, high_written, playing as playingOf, so_far, after_clocks, levels_of};
+ghost use Rattle.dac.specs.Running.{kept_pair, dac_of, kept as kept_of, after_reset, low_written, high_written, playing as playing_of, so_far, after_clocks, levels_of};
 ghost use Rattle.dac.specs.Play.{answer_of, after_play, lent_after, said};
 ghost use Rattle.dac.specs.Steps.{Fits};
 
@@ -169,7 +169,7 @@ fn kept_pair(pair: Pair) -> Pair
 
 // The pair by which the next clock of a kept record is played.
 fn playing(dac: Dac) -> Pair
-    ensures { result ≡ playingOf dac }
+    ensures { result ≡ playing_of dac }
 {
     if dac.position == 0 {
         let completed = dac.completed;

@@ -3,7 +3,7 @@
 
 ghost use Rattle.std.specs.Prelude.{◌≡◌, [], ◌∷◌, ◌<◌, ◌≤◌, length};
 ghost use Rattle.laws.specs.Said.{accepted, refused};
-ghost use Rattle.ihex.specs.Lines.{LF as Hex-as-LF};
+ghost use Rattle.ihex.specs.Lines.{LF as hex_lf};
 ghost use Rattle.fontline.specs.Lines.{checked, line_for, line_with, room};
 ghost use Rattle.fontline.specs.Steps.{ByteBefore, NumberBefore, WordsBefore};
 
@@ -52,7 +52,7 @@ fn refused_line(number: u32, place: u32) -> Line
 
 // The line's end alone.
 fn ended() -> Line
-    ensures { result ≡ line_with (Hex-as-LF ∷ []) }
+    ensures { result ≡ line_with (hex_lf ∷ []) }
 {
     let mut bytes = [0u8; ROOM];
     let start = ROOM - 1;

@@ -4,7 +4,7 @@
 ghost use Rattle.std.specs.Prelude.{◌≡◌, ◌≤◌, ◌++◌, length, drop, slice_index};
 ghost use Rattle.laws.specs.Lists.{tabulate};
 ghost use Rattle.image.specs.Image.{image_bytes};
-ghost use Rattle.ihex.specs.Records.{belongs as Records·belongs, address_of};
+ghost use Rattle.ihex.specs.Records.{belongs as records_belongs, address_of};
 ghost use Rattle.ihex.specs.Lines.{body_of};
 ghost use Rattle.ihex.specs.Reading.{most_text, fault_said, answer_of, left_of, said};
 ghost use Rattle.ihex.specs.Steps.{ToCollect, Collected, ToParse, Parsed, ToSearch, digit_table, ToDecode, Decoded, ToSpell, spelled_at, ended_by, ToStore, Stored, passes_end, byte_for};
@@ -210,7 +210,7 @@ fn bad_line(digits: &[u8], text: &[u8], at: usize) -> Outcome
 // Whether a character belongs in its place of a line.
 fn belongs(digits: &[u8], place: usize, c: u8) -> bool
     requires { digits.now ≡ digit_table }
-    ensures { result ≡ Records·belongs place c }
+    ensures { result ≡ records_belongs place c }
 {
     if place == 0 {
         return c == COLON;

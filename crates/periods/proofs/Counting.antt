@@ -23,7 +23,7 @@ use Rattle.dac.specs.Play.{too_many_levels, answer_of, after_play}
 use Rattle.periods.specs.Demand.{Event, play, step, run, output, Moment, wrote_low, wrote_high, clock, cleared, moments_of, moments, history, last_pair, since, clocks, unreset, Period, heard, high_clocks}
 use Rattle.periods.specs.Counts.{since_first, latest, Counted, Answered, Divided, Divisible, AtEnd, EndAnswered, Carried}
 use Rattle.wave.proofs.Within.{wave_add, sum_wave_add}
-use Rattle.dac.proofs.Clocks.{playing_kept, later_plays, first_so_far, later_so_far, counted as Clocks·counted, moved, levels_within, after_within, length_levels, levels_split, after_split}
+use Rattle.dac.proofs.Clocks.{playing_kept, later_plays, first_so_far, later_so_far, counted as clocks_counted, moved, levels_within, after_within, length_levels, levels_split, after_split}
 use Rattle.dac.proofs.Answers.{may}
 use Rattle.periods.proofs.Count.{sum_period, sum_first}
 use Rattle.periods.proofs.Stream.{act, through, sound, sound_append, through_history, output_sound, run_through, past, clocks_history, length_sound, pair_small, known, waves, run_past}
@@ -298,7 +298,7 @@ end_answered es c room h p e P = answer_after es c room e ∙ ap accepted (at_en
 -- Of any record: within a period, and from a first clock on.
 module _ (d : Dac) (c : ℕ) (some : 0 < c) where
   field_is : d.position % period + c ≤ period → (after_clocks c d).high ≡ kept_count (so_far (kept d) + sum_all (levels_of c d))
-  unfolding moved Clocks·counted
+  unfolding moved clocks_counted
   field_is fits = ap (λ (x : Dac). x.high) (after_within c d some fits) ∙ ap (λ (l : List ℕ). kept_count (so_far (kept d) + sum_all l)) (sym (levels_within c d fits))
 
   goes_on : 0 < d.position % period → d.position % period + c ≤ period → (after_clocks c d).high ≡ kept_count (d.high + sum_all (levels_of c d))

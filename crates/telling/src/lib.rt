@@ -3,11 +3,11 @@
 #![tactic(auto)]
 
 ghost use Rattle.std.specs.Prelude.{◌≡◌};
-ghost use Rattle.pulse.specs.Pulse.{said as Pulse·said};
-ghost use Rattle.dac.specs.Play.{said as Dac·said};
-ghost use Rattle.judging.specs.Judging.{said as Judging·said};
-ghost use Rattle.writer.specs.Writing.{said as Writer·said};
-ghost use Rattle.packer.specs.Packing.{said as Packer·said};
+ghost use Rattle.pulse.specs.Pulse.{said as pulse_said};
+ghost use Rattle.dac.specs.Play.{said as dac_said};
+ghost use Rattle.judging.specs.Judging.{said as judging_said};
+ghost use Rattle.writer.specs.Writing.{said as writer_said};
+ghost use Rattle.packer.specs.Packing.{said as packer_said};
 ghost use Rattle.answer.specs.Told.{told};
 
 use answer::Answer;
@@ -19,7 +19,7 @@ use writer::Written;
 
 // The answer of asking for a level.
 pub fn level_answer(level: Level) -> Answer
-    ensures { told result ≡ Pulse·said level }
+    ensures { told result ≡ pulse_said level }
 {
     match level {
         Level::Low => answer::accepted(0),
@@ -30,7 +30,7 @@ pub fn level_answer(level: Level) -> Answer
 
 // The answer of a play.
 pub fn played_answer(played: Played) -> Answer
-    ensures { told result ≡ Dac·said played }
+    ensures { told result ≡ dac_said played }
 {
     match played {
         Played::All(high) => answer::accepted(high),
@@ -40,7 +40,7 @@ pub fn played_answer(played: Played) -> Answer
 
 // The answer of painting a line.
 pub fn painted_answer(painted: Painted) -> Answer
-    ensures { told result ≡ Judging·said painted }
+    ensures { told result ≡ judging_said painted }
 {
     match painted {
         Painted::Done => answer::accepted(0),
@@ -56,7 +56,7 @@ pub fn painted_answer(painted: Painted) -> Answer
 
 // The answer of writing a font's text.
 pub fn written_answer(written: Written) -> Answer
-    ensures { told result ≡ Writer·said written }
+    ensures { told result ≡ writer_said written }
 {
     match written {
         Written::Done => answer::accepted(0),
@@ -68,7 +68,7 @@ pub fn written_answer(written: Written) -> Answer
 
 // The answer of packing glyphs.
 pub fn packed_answer(packed: Packed) -> Answer
-    ensures { told result ≡ Packer·said packed }
+    ensures { told result ≡ packer_said packed }
 {
     match packed {
         Packed::Done(cells) => answer::accepted(cells),

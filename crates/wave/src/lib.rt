@@ -3,7 +3,7 @@
 
 ghost use Rattle.std.specs.Prelude.{◌≡◌, ◌+◌, ◌-◌, ◌%◌, ◌<◌, ◌≤◌, min, length};
 ghost use Rattle.laws.specs.Sums.{sum_all};
-ghost use Rattle.wave.specs.Wave.{period, sub_period, sub_periods, added as addedOf, wave_in, laid};
+ghost use Rattle.wave.specs.Wave.{period, sub_period, sub_periods, added as added_of, wave_in, laid};
 ghost use Rattle.wave.specs.Steps.{high_in, pulse, Lays};
 
 // In clocks.
@@ -172,7 +172,7 @@ fn high_with(pair: Pair, more: u8) -> usize
 // 96: in binary 96 is 1100000, it ends in five zero bits, and 6 - 5 is 1. Sub-period 0 has no bit set at which its zeros would end, and no fine bit serves it.
 fn added(fine: u8, n: usize) -> u8
     requires { n < sub_periods }
-    ensures { result ≡ addedOf fine n }
+    ensures { result ≡ added_of fine n }
 {
     if n == 0 {
         return 0;
