@@ -19,4 +19,4 @@ returns c =
     let ended = c.ended.ensures in
     let number = c.number_before.ensures in
     let words = c.words_before.ensures in
-    accepted_said ended number words
+    accepted_said {r = c.words_before.result} ended number words
