@@ -1,15 +1,9 @@
-// Answers in the documents' numbers: the struct that crosses to C and that a program's line tells, and how the reader's cases and those of
-// turning an image into a font become it.
+// Answers in the documents' numbers: the struct that crosses to C, and how what a call comes to becomes it: a value, or a case of refusal with its number and
+// place, which each crate's own error has.
 #![tactic(auto)]
 
-ghost use Rattle.std.specs.Prelude.{◌≡◌};
-ghost use Rattle.laws.specs.Said.{accepted as said_accepted, refused as said_refused};
-ghost use Rattle.image.specs.Image.{said as image_said};
-ghost use Rattle.ihex.specs.Reading.{said as hex_said};
-ghost use Rattle.answer.specs.Told.{told};
-
-use ihex::Outcome;
-use image::Turned;
+ghost use Rattle.std.specs.Prelude.{◌≡◌, ℕ};
+ghost use Rattle.answer.specs.Told.{told, said_of};
 
 // Number 0 if a call was accepted, else the documents' number of the refusal, with its place; and the value that an accepted call gives.
 #[repr(C)]
@@ -20,52 +14,58 @@ pub struct Answer {
     pub value: u32,
 }
 
-// The answer of a call that was accepted.
-pub fn accepted(value: u32) -> Answer
-    ensures { told result ≡ said_accepted value }
-{
-    Answer {
-        number: 0,
-        place: 0,
-        value,
+// What an accepted call gives, as the number that is told of it.
+pub trait Value: Copy {
+    ghost value_of: { Self → ℕ };
+
+    fn value(self) -> u32
+        ensures { result ≡ value_of self };
+}
+
+// A case of refusal: its number in the documents, and where.
+pub trait Refusal: Copy {
+    ghost number_of: { Self → ℕ };
+
+    ghost place_of: { Self → ℕ };
+
+    fn number(&self) -> u32
+        ensures { result ≡ number_of self.now };
+
+    fn place(&self) -> u32
+        ensures { result ≡ place_of self.now };
+}
+
+impl Value for () {
+    ghost value_of = { λ _. 0 };
+
+    fn value(self) -> u32 {
+        0
     }
 }
 
-// The answer of a call that was refused.
-pub fn refused(number: u32, place: u32) -> Answer
-    ensures { told result ≡ said_refused number place }
-{
-    Answer {
-        number,
-        place,
-        value: 0,
+impl Value for u32 {
+    ghost value_of = { λ n. n };
+
+    fn value(self) -> u32 {
+        self
     }
 }
 
-// The answer of reading a text.
-pub fn read_answer(outcome: Outcome) -> Answer
-    ensures { told result ≡ hex_said outcome }
-{
-    match outcome {
-        Outcome::Done(count) => accepted(count),
-        Outcome::NoRoom => refused(6, 0),
-        Outcome::TooLong => refused(7, 0),
-        Outcome::BadCharacter(place) => refused(19, place),
-        Outcome::BadShape(place) => refused(20, place),
-        Outcome::BadSum(place) => refused(8, place),
-        Outcome::BadType(place) => refused(9, place),
-        Outcome::PastEnd(place) => refused(10, place),
-        Outcome::GivenTwice(place) => refused(11, place),
-        Outcome::BadEnd(place) => refused(12, place),
-    }
-}
+impl<V: Value, R: Refusal> From<Result<V, R>> for Answer {
+    ghost from_gives = { λ outcome answer. told answer ≡ said_of V.value_of R.number_of R.place_of outcome };
 
-// The answer of turning an image into a font.
-pub fn turned_answer(turned: Turned) -> Answer
-    ensures { told result ≡ image_said turned }
-{
-    match turned {
-        Turned::Done => accepted(0),
-        Turned::NotAFont(place) => refused(13, place),
+    fn from(outcome: Result<V, R>) -> Answer {
+        match outcome {
+            Ok(value) => Answer {
+                number: 0,
+                place: 0,
+                value: value.value(),
+            },
+            Err(refusal) => Answer {
+                number: refusal.number(),
+                place: refusal.place(),
+                value: 0,
+            },
+        }
     }
 }

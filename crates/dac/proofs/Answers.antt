@@ -1,27 +1,18 @@
--- What the two tests of a play decide: a play that is refused leaves everything as it was, and one that is not is its clocks.
+-- What the test of a play decides: a play that is refused leaves everything as it was, and one that is not is its clocks.
 -- Assumes nothing.
-use Prim.Native.Nat.{ℕ, ◌<◌, ◌≤◌}
-use mathlib.Core.Path.{◌≡◌, refl, ap, ◌∙◌}
-use mathlib.Core.Bool.{true, false, or-true}
-use mathlib.Core.List.{List}
-use lib.Dec.{ltb}
-use lib.ListN.{length}
-use borrow.Author.Tests.{lt-ltb, le-ltb}
+use Rattle.std.proofs.Common.{◌≡◌, ℕ, ◌<◌, ◌≤◌, min, true, false, List, length, refl, ap, ◌∙◌, le-ltb, arith}
 use Rattle.laws.specs.Said.{Said, accepted, refused}
-use Rattle.dac.specs.declared.Dac.{Dac}
 use Rattle.wave.specs.Wave.{period, over}
+use Rattle.dac.specs.declared.Dac.{Dac}
 use Rattle.dac.specs.Running.{kept_count, after_clocks, levels_of}
 use Rattle.dac.specs.Play.{too_many_levels, answer_of, after_play, levels_played, lent_after}
 
 module _ (c room : ℕ) where
-  pub past_period : period < c → too_many_levels c room ≡ true
-  past_period h = rw (lt-ltb period c h)
-
-  pub past_room : room < c → too_many_levels c room ≡ true
-  past_room h = rw (lt-ltb room c h) (or-true (ltb period c))
-
   pub may : c ≤ period → c ≤ room → too_many_levels c room ≡ false
   may most fits = rw (le-ltb period c most, le-ltb room c fits)
+
+  pub past : min period room < c → too_many_levels c room ≡ true
+  past h = grind arith
 
 module _ (d : Dac) (c : ℕ) (s : List ℕ) where
   pub refused_play : too_many_levels c (length s) ≡ true

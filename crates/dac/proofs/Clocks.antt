@@ -1,16 +1,7 @@
 -- The clocks of a play, joined to what its code writes: within a period the levels are the wave of the pair in force, and a play is its first clocks and
 -- then the others.
 -- Assumes nothing.
-use Prim.Native.Nat.{ℕ, zero, suc, ◌+◌, ◌-◌, ◌%◌, ◌<◌, ◌≤◌}
-use mathlib.Core.Path.{◌≡◌, refl, sym, ap, ap₂, ◌∙◌}
-use mathlib.Core.Bool.{Bool, true, false}
-use mathlib.Core.List.{List, [], ◌∷◌, ◌++◌, append_assoc}
-use native.Mathlib.Nat.{zero-add, suc-add}
-use native.Mathlib.Omega.{arith}
-use lib.Dec.{eqb}
-use lib.ListN.{length, take, drop, length-drop}
-use lib.Seq.{take_at, drop_at, length-take-le}
-use borrow.Author.Tests.{eq-eqb, ne_eqb}
+use Rattle.std.proofs.Common.{◌≡◌, ℕ, zero, suc, ◌+◌, ◌-◌, ◌%◌, ◌<◌, ◌≤◌, Bool, true, false, eqb, List, [], ◌∷◌, ◌++◌, length, take, drop, refl, sym, ap, ap₂, ◌∙◌, zero-add, suc-add, append_assoc, length-drop, take_at, drop_at, length-take-le, arith, eq-eqb, ne_eqb}
 use Rattle.laws.specs.Pick.{pick}
 use Rattle.laws.specs.Sums.{sum_all}
 use Rattle.wave.specs.declared.Pair.{Pair}
@@ -25,11 +16,6 @@ pair_kept q hc hf =
     let a : q.coarse % halves ≡ q.coarse = omega arith in
     let b : q.fine % halves ≡ q.fine = omega arith in
     rw (a, b)
-
--- the kept form by its parts
-pub kept_by : (d k : Dac) (p : ℕ) (h c f : Pair) (n : ℕ) → k ≡ dac_of p h c f n → p ≡ d.position % period → h ≡ kept_pair d.held → c ≡ kept_pair d.completed
-    → f ≡ kept_pair d.in_force → n ≡ kept_count d.high → k ≡ kept d
-kept_by d k p h c f n is ep eh ec ef en = is ∙ (λ i. dac_of (ep i) (eh i) (ec i) (ef i) (en i))
 
 pub kept_pair_kept : (q : Pair) → kept_pair (kept_pair q) ≡ kept_pair q
 kept_pair_kept q = pair_kept (kept_pair q) (omega arith) (omega arith)
@@ -145,9 +131,6 @@ after_split (suc a) b d = rw suc-add (after_split a b (clocked (kept d)))
 
 over_levels : (c : ℕ) (d : Dac) (s ls : List ℕ) → ls ≡ levels_of c d → ls ++ drop c s ≡ over (levels_of c d) s
 over_levels c d s ls e = rw (length_levels c d, e)
-
-pub position_small : (d k : Dac) → k ≡ kept d → k.position < period
-position_small d k is = let p : k.position ≡ (kept d).position = ap (λ (x : Dac). x.position) is in omega arith
 
 -- What `run` finds for a record: its kept form k, the pair q by which the next clock is played, and the high clocks b before it. A play that ends within
 -- the period under way:

@@ -1,11 +1,11 @@
 -- A play: the clocks asked for, the bytes lent, number 14 of document 01's table, and the count that M-104 has a play answer.
 -- Assumes nothing.
-use Rattle.std.specs.Prelude.{ℕ, Bool, ◌||◌, List, [], ltb, length}
+use Rattle.std.specs.Prelude.{ℕ, Bool, ◌||◌, List, [], ltb, length, Result}
 use Rattle.laws.specs.Pick.{pick}
 use Rattle.laws.specs.Said.{Said, accepted, refused}
+use Rattle.answer.specs.Told.{said_of}
 use Rattle.dac.specs.declared.Dac.{Dac}
-use Rattle.dac.specs.declared.Played.{Played}
-use Rattle.dac.specs.declared.Played.TheVariants.{All, TooMany}
+use Rattle.dac.specs.declared.TooManyClocks.{TooManyClocks}
 use Rattle.wave.specs.Wave.{period, over}
 use Rattle.dac.specs.Running.{kept_count, after_clocks, levels_of}
 
@@ -30,6 +30,11 @@ unfoldable pub lent_after : Dac → ℕ → List ℕ → List ℕ
 lent_after d clocks lent = over (levels_played d clocks (length lent)) lent
 
 -- number, place and value for each answer
-abbrev pub said : Played → Said
-said (All high) = accepted high
-said TooMany = refused 14 0
+abbrev pub number_of : TooManyClocks → ℕ
+number_of _ = 14
+
+abbrev pub place_of : TooManyClocks → ℕ
+place_of _ = 0
+
+abbrev pub said : Result ℕ TooManyClocks → Said
+said = said_of (λ n. n) number_of place_of

@@ -1,5 +1,4 @@
-// The 14-bit DAC. The host has the one running record and lends it to every call, which updates it there: each function copies the record, calls
-// the step by value, and stores what comes back.
+// The 14-bit DAC. The host has the one running record and lends it to every call, which updates it there.
 ghost use Rattle.std.specs.Prelude.{◌≡◌, length};
 ghost use Rattle.dac.specs.Running.{after_reset, low_written, high_written};
 ghost use Rattle.dac.specs.Play.{answer_of, after_play, lent_after};
@@ -12,23 +11,21 @@ use dac::Dac;
 pub extern "C" fn dirgeflint_dac_reset(running: &mut Dac)
     ensures { running.new ≡ after_reset }
 {
-    *running = dac::fresh();
+    *running = Dac::fresh();
 }
 
 #[unsafe(no_mangle)]
 pub extern "C" fn dirgeflint_dac_write_low(running: &mut Dac, byte: u8)
     ensures { running.new ≡ low_written running.old byte }
 {
-    let before = *running;
-    *running = dac::write_low(before, byte);
+    running.write_low(byte);
 }
 
 #[unsafe(no_mangle)]
 pub extern "C" fn dirgeflint_dac_write_high(running: &mut Dac, byte: u8)
     ensures { running.new ≡ high_written running.old byte }
 {
-    let before = *running;
-    *running = dac::write_high(before, byte);
+    running.write_high(byte);
 }
 
 // Plays so many clocks, one byte for each, into the first bytes lent: the record's count of high clocks as value, or number 14.
@@ -36,9 +33,5 @@ pub extern "C" fn dirgeflint_dac_write_high(running: &mut Dac, byte: u8)
 pub extern "C" fn dirgeflint_dac_play(running: &mut Dac, clocks: u32, levels: &mut [u8]) -> Answer
     ensures { (told result ≡ answer_of running.old clocks (length levels.old)) × (running.new ≡ after_play running.old clocks (length levels.old)) × (levels.new ≡ lent_after running.old clocks levels.old) }
 {
-    let before = *running;
-    let played = dac::play(before, clocks, levels);
-    *running = played.after;
-    let case = played.answer;
-    telling::played_answer(case)
+    Answer::from(running.play(clocks, levels))
 }

@@ -21,7 +21,7 @@ pub extern "C" fn dirgeflint_paint(
 ) -> Answer
     ensures { (told result ≡ answer_of words.now font.now settings (record { 0 = line }) (record { 0 = width }) (length dots.old)) × (dots.new ≡ left_by words.now font.now settings frame (record { 0 = line }) (record { 0 = width }) dots.old) }
 {
-    let painted = display::paint(
+    Answer::from(display::paint(
         words,
         font,
         settings,
@@ -29,6 +29,5 @@ pub extern "C" fn dirgeflint_paint(
         Lines(line as usize),
         Dots(width as usize),
         dots,
-    );
-    telling::painted_answer(painted)
+    ))
 }

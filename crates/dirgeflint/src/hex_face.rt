@@ -11,7 +11,7 @@ use answer::Answer;
 pub extern "C" fn dirgeflint_hex_read(text: &[u8], image: &mut [u8]) -> Answer
     ensures { (told result ≡ hex_answer_of text.now (length image.old)) × (image.new ≡ hex_left_of text.now image.old) }
 {
-    answer::read_answer(ihex::read(text, image))
+    Answer::from(ihex::read(text, image))
 }
 
 // Turns an image of 8,192 bytes into a font of 1,116 rows. Value 0, or number 13.
@@ -19,5 +19,5 @@ pub extern "C" fn dirgeflint_hex_read(text: &[u8], image: &mut [u8]) -> Answer
 pub extern "C" fn dirgeflint_image_to_font(image: &[u8], font: &mut [u16]) -> Answer
     ensures { (told result ≡ image_answer_of image.now (length font.old)) × (font.new ≡ image_left_of image.now font.old) }
 {
-    answer::turned_answer(image::image_to_font(image, font))
+    Answer::from(image::image_to_font(image, font))
 }

@@ -12,6 +12,5 @@ pub extern "C" fn dirgeflint_pack(glyphs: &[u16], font: &mut [u16], cells: &mut 
         × (font.new ≡ font_left glyphs.now font.old cells.old)
         × (cells.new ≡ cells_left glyphs.now font.old cells.old) }
 {
-    let packed = packer::pack(glyphs, font, cells);
-    telling::packed_answer(packed)
+    Answer::from(packer::pack(glyphs, font, cells))
 }

@@ -9,29 +9,26 @@ use port::Port;
 pub extern "C" fn dirgeflint_port_reset(port: &mut Port)
     ensures { port.new ≡ fresh_port }
 {
-    *port = port::fresh();
+    *port = Port::fresh();
 }
 
 #[unsafe(no_mangle)]
 pub extern "C" fn dirgeflint_port_write_address(port: &mut Port, byte: u8)
     ensures { port.new ≡ address_written port.old byte }
 {
-    let before = *port;
-    *port = port::write_address(before, byte);
+    port.write_address(byte);
 }
 
 #[unsafe(no_mangle)]
 pub extern "C" fn dirgeflint_port_write_attribute(port: &mut Port, byte: u8)
     ensures { port.new ≡ attribute_written port.old byte }
 {
-    let before = *port;
-    *port = port::write_attribute(before, byte);
+    port.write_attribute(byte);
 }
 
 #[unsafe(no_mangle)]
 pub extern "C" fn dirgeflint_port_write_character(port: &mut Port, byte: u8)
     ensures { port.new ≡ character_written port.old byte }
 {
-    let before = *port;
-    *port = port::write_character(before, byte);
+    port.write_character(byte);
 }

@@ -10,5 +10,5 @@ use answer::Answer;
 pub extern "C" fn dirgeflint_pulse_level(channel: u32, byte: u8, t: u32) -> Answer
     ensures { told result ≡ answer_of channel byte t }
 {
-    telling::level_answer(pulse::level_at(channel, byte, t))
+    Answer::from(pulse::level_at(channel, byte, t))
 }

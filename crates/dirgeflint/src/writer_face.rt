@@ -10,6 +10,5 @@ use answer::Answer;
 pub extern "C" fn dirgeflint_hex_write(font: &[u16], text: &mut [u8]) -> Answer
     ensures { (told result ≡ answer_of font.now (length text.old)) × (text.new ≡ left_of font.now text.old) }
 {
-    let written = writer::write(font, text);
-    telling::written_answer(written)
+    Answer::from(writer::write(font, text))
 }

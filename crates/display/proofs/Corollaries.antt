@@ -13,7 +13,7 @@ use Rattle.laws.specs.Lines.{first_shown, any_of}
 use Rattle.laws.specs.Lists.{tabulate}
 use Rattle.laws.specs.Placing.{span_has}
 use lib.ListN.{take, get_or}
-use Rattle.laws.proofs.Lists.{tabulate_same, get_d_tabulate, tabulate_cut}
+use Rattle.laws.proofs.Lists.{tabulate_same, get_or_tabulate, tabulate_cut}
 use Rattle.laws.proofs.Holders.{first_of_none}
 use Rattle.laws.proofs.Both.{both_where, pick_where}
 use Rattle.laws.proofs.Placing.{span_has_law, cell_has_law, cell_below, cell_beside, share_below}
@@ -60,7 +60,7 @@ same_read kinds kinds' dots s frame line width e =
 module _ (kinds : List Kind) (dots : Drawn) (s : Settings) (frame : ℕ) (line : Lines) where
   -- the line is its dots, one by one
   pub line_dot : (width : Dots) (k d : ℕ) → k < width.0 → get_or (line_of kinds dots s frame line width) k d ≡ dot_of kinds dots s frame line k
-  line_dot width k d lt = get_d_tabulate width.0 (dot_of kinds dots s frame line) k d lt
+  line_dot width k d lt = get_or_tabulate width.0 (dot_of kinds dots s frame line) k d lt
 
   -- a smaller width cuts the line and changes no dot of it
   pub line_cut : (less width : Dots) → less.0 ≤ width.0 → take less.0 (line_of kinds dots s frame line width) ≡ line_of kinds dots s frame line less

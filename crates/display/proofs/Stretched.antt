@@ -7,17 +7,14 @@ use Prim.Native.Nat.{ℕ, ◌-◌, ◌*◌, ◌/◌, ◌%◌, ◌<◌, ◌≤◌
 use native.Mathlib.Omega.{arith}
 use borrow.Author.Tests.{eqb-true}
 use lib.Dec.{eqb}
-use Rattle.laws.specs.Lines.{overlay}
 use Rattle.laws.specs.Pick.{pick, both, either}
 use Rattle.laws.specs.Placing.{span_has, patched}
 use Rattle.laws.proofs.Both.{pick_where, pick_of}
 use Rattle.laws.proofs.Placing.{cell_in_row, span_has_law, share_below, first_part}
-use Rattle.font.specs.Font.{rows_of_cell, cell_columns, bit_set, font_dot}
+use Rattle.font.specs.Font.{rows_of_cell, bit_set, font_dot}
 use Rattle.modes.specs.Modes.{ground_byte, in_colour}
 use Rattle.judging.specs.Judging.{most_colour}
-use Rattle.stretch.specs.declared.Row.{Row}
 use Rattle.stretch.specs.Stretch.{shade_set, column_byte, stretched}
-use Rattle.units.specs.declared.Dots.{Dots}
 use Rattle.display.specs.declared.View.{View}
 use Rattle.display.specs.declared.Pen.{Pen}
 use Rattle.display.specs.Cells.{character, space}
@@ -93,9 +90,3 @@ module _ (font : List ℕ) (v : View) (p : Pen) (thrown : Bool) (cut : Cut v p) 
       let j : ℕ = (k - p.x.0) / p.size in
       column_byte_law v 0 0 0 own j thrown (span_has p.x.0 p.size k) false false within
       (no_bits j) (sym (first_part p.size k p.x.0 some h.0)) (λ one. no_shade j)))
-
--- the bytes of a cell, as the table of modes tells them
-pub inked : (x : Dots) (size : ℕ) (row : Row) (mode on back shade off : ℕ) (out last : List ℕ) → shade ≡ ground_byte mode true true (back % 8) → off ≡ ground_byte mode true false (back % 8)
-    → last ≡ overlay (stretched x.0 (cell_columns * size) size row (record { on = on; shade = shade; off = off })) out
-    → last ≡ overlay (stretched x.0 (cell_columns * size) size row (ink_of mode on back)) out
-inked x size row mode on back shade off out last is is' laid = laid ∙ rw (is, is')

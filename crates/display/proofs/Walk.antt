@@ -13,7 +13,7 @@ use Rattle.laws.specs.Pick.{pick, both, either}
 use Rattle.laws.specs.Lines.{first_shown, any_of}
 use Rattle.laws.specs.Placing.{span_has}
 use Rattle.laws.proofs.Both.{none_right, both_none, either_none, fails_unless}
-use Rattle.laws.proofs.Holders.{first_of_none, first_alike_shown}
+use Rattle.laws.proofs.Holders.{first_of_none, first_past, first_alike_shown}
 use Rattle.laws.proofs.Placing.{span_in, span_has_law, span_before, cell_above, cell_in_row, past_cell, part_at}
 use Rattle.laws.proofs.Scan.{split}
 use Rattle.font.specs.Font.{rows_of_cell, bit_set, font_dot}
@@ -53,11 +53,6 @@ module _ (dots : Drawn) (v : View) (k : ℕ) where
   pub painted_quiet : (cs : List Cell) (old : ℕ) → any_of (has v k) cs ≡ false → any_of (throws dots v k) cs ≡ false → painted dots v false cs k old ≡ old
   painted_quiet cs old none dark = painted_none cs false old none dark ∙ fallen_none old
 
-  -- a cell that does not have the dot paints nothing on it
-  skipped : (c : Cell) (cs : List Cell) (old : ℕ) (shaded : Bool) → has v k c ≡ false → painted_in dots v (c ∷ cs) k old shaded ≡ painted_in dots v cs k old shaded
-  unfolding first_shown
-  skipped c cs old shaded away = rw away
-
   -- a cell that has the dot, before cells that have nothing to do with it
   module _ (c : Cell) (cs : List Cell) (before : Bool) (old : ℕ) where
     pub walk_here : has v k c ≡ true → any_of (has v k) cs ≡ false → any_of (throws dots v k) cs ≡ false
@@ -73,12 +68,12 @@ module _ (dots : Drawn) (v : View) (k : ℕ) where
     unfolding first_shown any_of
     walk_by true in_1 next away clear hands =
         subst (λ (b : Bool). painted dots v next cs k old ≡ painted dots v b (c ∷ cs) k old) (sym clear)
-        (sym (skipped c cs old (any_of (throws dots v k) (c ∷ cs)) away
+        (sym (first_past (has v k) (cell_dot dots v (any_of (throws dots v k) (c ∷ cs)) k) c cs _ away
         ∙ ap (λ (t : Bool). painted_in dots v cs k old (either t (any_of (throws dots v k) cs))) (hands (eqb-true _ _ in_1))))
     walk_by false other next away clear hands =
         subst (λ (b : Bool). painted dots v next cs k old ≡ painted dots v b (c ∷ cs) k old) (sym clear)
         (painted_plain cs old (either next (any_of (throws dots v k) cs)) (any_of (throws dots v k) (c ∷ cs)) other
-        ∙ sym (skipped c cs old (any_of (throws dots v k) (c ∷ cs)) away))
+        ∙ sym (first_past (has v k) (cell_dot dots v (any_of (throws dots v k) (c ∷ cs)) k) c cs _ away))
 
     pub walk_away : (next : Bool) → has v k c ≡ false → before ≡ false → (v.mode ≡ 1 → throws dots v k c ≡ next)
         → painted dots v next cs k (drawn_dot dots v k before c old) ≡ painted dots v before (c ∷ cs) k old
@@ -89,7 +84,7 @@ module _ (dots : Drawn) (v : View) (k : ℕ) where
   pub walk_past : (c : Cell) (cs : List Cell) (before : Bool) (old : ℕ) → has v k c ≡ false → throws dots v k c ≡ false → painted dots v before (c ∷ cs) k old ≡ painted dots v before cs k old
   unfolding any_of
   walk_past c cs before old away dark =
-      skipped c cs old (either before (any_of (throws dots v k) (c ∷ cs))) away
+      first_past (has v k) (cell_dot dots v (either before (any_of (throws dots v k) (c ∷ cs))) k) c cs _ away
       ∙ ap (λ (t : Bool). painted_in dots v cs k old (either before (either t (any_of (throws dots v k) cs)))) dark
 
   -- the end of a row

@@ -1,5 +1,6 @@
 -- The line with the display on; and what a call leaves: an accepted one the line and the bytes after it, a refused one all as it was.
 -- Assumes nothing.
+use Rattle.std.proofs.Common.{Result, Ok}
 use mathlib.Core.Path.{◌≡◌, sym, ap, ◌∙◌}
 use mathlib.Core.Bool.{Bool, true, false}
 use mathlib.Core.List.{List, ◌++◌}
@@ -18,10 +19,9 @@ use Rattle.units.specs.declared.Dots.{Dots}
 use Rattle.units.specs.declared.Lines.{Lines}
 use Rattle.modes.specs.Modes.{video, ground_byte, lit_in}
 use Rattle.judging.specs.declared.Settings.{Settings}
-use Rattle.judging.specs.declared.Painted.{Painted}
-use Rattle.judging.specs.declared.Painted.TheVariants.{Done}
+use Rattle.judging.specs.declared.PaintError.{PaintError}
 use Rattle.judging.specs.Judging.{answer_of, said}
-use Rattle.judging.proofs.Accepted.{accepted_done, done_is, not_done}
+use Rattle.judging.proofs.Accepted.{accepted_ok, not_done}
 use Rattle.display.specs.declared.View.{View}
 use Rattle.display.specs.Words.{kinds_of}
 use Rattle.display.specs.Cells.{Cell}
@@ -59,26 +59,26 @@ pub part_there : (n : ℕ) (out : List ℕ) → n ≤ length out → n ≡ lengt
 part_there n out fits = sym (length-take-le n out fits)
 
 -- what an accepted call has shown
-module _ (words font : List ℕ) (s : Settings) (line : Lines) (width : Dots) (out : List ℕ) (r : Painted) (e : said r ≡ answer_of words font s line width (length out)) (done : r ≡ Done) where
+module _ (words font : List ℕ) (s : Settings) (line : Lines) (width : Dots) (out : List ℕ) (r : Result (Unit {0}) PaintError) (e : said r ≡ answer_of words font s line width (length out)) (done : r ≡ Ok tt) where
   pub room_there : width.0 ≤ length out
-  room_there = (accepted_done words font s line width (length out) r e done).fits
+  room_there = (accepted_ok words font s line width (length out) r e done).fits
 
   pub usable : Usable words font s
   usable =
-      let acc = accepted_done words font s line width (length out) r e done in
+      let acc = accepted_ok words font s line width (length out) r e done in
       record { words = acc.words64; rows = acc.rows; colour = acc.colour; h = acc.h; v = acc.v; ratio = acc.ratio; frequency = acc.frequency }
 
-module _ (words font : List ℕ) (s : Settings) (frame : ℕ) (line : Lines) (width : Dots) (out : List ℕ) (r : Painted) (e : said r ≡ answer_of words font s line width (length out)) where
-  pub refused_leaves : (r ≡ Done → ⊥) → out ≡ left_by words font s frame line width out
+module _ (words font : List ℕ) (s : Settings) (frame : ℕ) (line : Lines) (width : Dots) (out : List ℕ) (r : Result (Unit {0}) PaintError) (e : said r ≡ answer_of words font s line width (length out)) where
+  pub refused_leaves : (r ≡ Ok tt → ⊥) → out ≡ left_by words font s frame line width out
   unfolding left_by
   refused_leaves other =
       simp (ne_eqb (answer_of words font s line width (length out)).number 0 (λ z. not_done r other (ap (λ (a : Said). a.number) e ∙ z)))
 
-  module _ (done : r ≡ Done) (last : List ℕ) where
+  module _ (done : r ≡ Ok tt) (last : List ℕ) where
     leaves : last ≡ line_of (kinds_of words) (font_dot font) s frame line width → last ++ drop width.0 out ≡ left_by words font s frame line width out
     unfolding left_by
     leaves l =
-        simp (eq-eqb (answer_of words font s line width (length out)).number 0 (ap (λ (a : Said). a.number) (done_is r _ e done)))
+        simp (eq-eqb (answer_of words font s line width (length out)).number 0 (ap (λ (a : Said). a.number) (sym e ∙ ap said done)))
         (ap (λ (t : List ℕ). t ++ drop width.0 out) l)
 
     pub shown : s.on ≡ true → last ≡ tabulate (length (take width.0 out)) (dot_at (font_dot font) (view_of s frame line) s.colour (screen_of (kinds_of words) s))

@@ -131,19 +131,13 @@ pub record Cut (v : View) (p : Pen) : Type 0 where
   pub from : p.y.0 ≤ v.line.0
   pub to : v.line.0 < p.y.0 + rows_of_cell * p.size
 
--- what `row_step` asks, and `cell_step` of the row that the line cuts
-pub record RowAsks (font : List ℕ) (v : View) (p : Pen) (n : ℕ) : Type 0 where
-  pub rows : length font ≡ font_rows
-  pub room : Room v p n
-
-pub record CellAsks (font : List ℕ) (v : View) (p : Pen) (n : ℕ) : Type 0 where
-  pub rows : length font ≡ font_rows
+-- what `cell_step` asks of the row that the line cuts
+pub record CellAsks (v : View) (p : Pen) (n : ℕ) : Type 0 where
   pub room : Room v p n
   pub cut : Cut v p
 
 -- what `draw` asks: a word that was decoded, in such a row
-pub record DrawAsks (font : List ℕ) (v : View) (c : Placed) (background : ℕ) : Type 0 where
-  pub rows : length font ≡ font_rows
+pub record DrawAsks (v : View) (c : Placed) (background : ℕ) : Type 0 where
   pub sound : Sound c.kind
   pub colour : background ≤ most_colour
   pub some : 1 ≤ c.size

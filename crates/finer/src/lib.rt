@@ -1,2 +1,2 @@
-// No code: what the finer numbers of M-102 tell, and where they point, proved of the accounts of judging, writer and hex.
+// No code: what the finer numbers of M-102 tell, and where they point, proved of the accounts of judging, writer and ihex.
 #![tactic(auto)]

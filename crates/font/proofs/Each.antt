@@ -1,18 +1,16 @@
--- A list's numbers one by one: it is within a bound where each of them is; they are those of four parts, and what is left; and a font's two tests.
+-- A list's numbers one by one: it is within a bound where each of them is, and what a search for one above it finds; they are those of four parts, and
+-- what is left; and a font's two tests.
 -- Assumes nothing.
-use Prim.Native.Nat.{ℕ, zero, suc, ◌+◌, ◌-◌, ◌*◌, ◌<◌, ◌≤◌}
-use mathlib.Core.Path.{◌≡◌, refl, ap}
-use mathlib.Core.Bool.{true}
-use mathlib.Core.List.{List, [], ◌∷◌}
+use Rattle.std.proofs.Common.{◌≡◌, ℕ, zero, suc, ◌+◌, ◌-◌, ◌*◌, ◌<◌, ◌≤◌, true, false, List, [], ◌∷◌, length, get_or, take, drop, leb, ltb, eqb, Bool, Option, Some, None, MatchOption, refl, sym, ap, ◌∙◌, below_more, le-leb, leb-true, le-ltb, lt-ltb, ne_eqb, arith}
+use Rattle.std.proofs.lemmas.Bool.{eqb-false}
+use Rattle.std.proofs.lemmas.List.{get_or-drop, get_or-take}
 use native.Mathlib.Decide.{dec_lt}
-use native.Mathlib.Omega.{arith}
-use borrow.Author.Count.{below_more}
-use borrow.Author.Tests.{le-leb, leb-true}
-use lib.Dec.{leb, eqb}
-use lib.ListN.{length, get_or}
-use Rattle.laws.specs.Within.{within}
+use Rattle.laws.specs.Pick.{pick}
+use Rattle.laws.specs.Within.{within, first_row_above}
 use Rattle.laws.proofs.Both.{both_parts}
-use Rattle.font.specs.Font.{font_rows, most_row, is_font}
+use Rattle.laws.proofs.Lists.{first_is, first_most}
+use Rattle.laws.proofs.Scan.{within_first}
+use Rattle.font.specs.Font.{font_rows, most_row, is_font, first_above}
 
 pub within_at : (most : ℕ) (l : List ℕ) → within most l ≡ true → (k : ℕ) → get_or l k 0 ≤ most
 unfolding within
@@ -24,6 +22,42 @@ pub within_each : (most : ℕ) (l : List ℕ) → ((k : ℕ) → k < length l �
 unfolding within
 within_each most [] h = refl
 within_each most (a ∷ l) h = rw (le-leb a most (h 0 (omega arith))) (within_each most l (λ k g. h (suc k) (omega arith)))
+
+-- what a search for a number above the bound finds
+pub found_above : (most : ℕ) (l : List ℕ) (r : Option ℕ)
+    → MatchOption r ((k : ℕ) → k < length l → get_or l k 0 ≤ most) (λ i. (i < length l) × ((most < get_or l i 0) × ((k : ℕ) → k < i → get_or l k 0 ≤ most))) → r ≡ first_above most l
+found_above most l None all = simp (within_each most l all)
+found_above most l (Some i) found =
+    let first : first_row_above most l ≡ i = first_is (length l) (λ k. ltb most (get_or l k 0)) i found.0 (λ k h. le-ltb most (get_or l k 0) (found.1.1 k h)) (lt-ltb most (get_or l i 0) found.1.0) in
+    let some : within most l ≡ false = within_first most l ∙ ne_eqb _ _ (omega (arith, first)) in
+    simp (some, first)
+
+-- and what the place says: none is above the bound, or the first is there
+pub none_above : (most : ℕ) (l : List ℕ) → None ≡ first_above most l → within most l ≡ true
+none_above most l e = go (within most l) refl e
+  where
+    go : (t : Bool) → within most l ≡ t → None ≡ pick t None (Some (first_row_above most l)) → within most l ≡ true
+    go true e g = e
+    go false e g = cc
+
+pub record Above (most : ℕ) (l : List ℕ) (i : ℕ) : Type 0 where
+  pub some : within most l ≡ false
+  pub first : i ≡ first_row_above most l
+  pub below : i < length l
+
+pub one_above : (most : ℕ) (l : List ℕ) (i : ℕ) → Some i ≡ first_above most l → Above most l i
+one_above most l i e = go (within most l) refl e
+  where
+    go : (t : Bool) → within most l ≡ t → Some i ≡ pick t None (Some (first_row_above most l)) → Above most l i
+    go true e g = cc
+    go false e g =
+        let first : i ≡ first_row_above most l = cc in
+        let not_all : eqb (first_row_above most l) (length l) ≡ false = sym (within_first most l) ∙ e in
+        record { some = e; first = first; below = omega (arith, eqb-false _ _ not_all, first_most (length l) (λ k. ltb most (get_or l k 0))) }
+
+-- a number of a part is the list's from the part's start on
+pub part_at : (l : List ℕ) (n w i : ℕ) → i < w → get_or (take w (drop n l)) i 0 ≡ get_or l (n + i) 0
+part_at l n w i h = get_or-take w (drop n l) i 0 h ∙ get_or-drop n l i 0
 
 -- what a font is, test by test
 pub font_tests : (rows : List ℕ) → is_font rows ≡ true → (eqb (length rows) font_rows ≡ true) × (within most_row rows ≡ true)

@@ -1,9 +1,9 @@
 -- A font: document 01, 'The character image' and 'From words to dots'. 62 cells, each of 18 rows from the top down, each row 12 dots
 -- from the left, kept as one number whose bit 11 is the leftmost dot.
 -- Assumes nothing.
-use Rattle.std.specs.Prelude.{ℕ, ◌+◌, ◌-◌, ◌*◌, ◌/◌, ◌%◌, ◌^◌, List, Bool, eqb, length, get_or}
-use Rattle.laws.specs.Pick.{both}
-use Rattle.laws.specs.Within.{within}
+use Rattle.std.specs.Prelude.{ℕ, ◌+◌, ◌-◌, ◌*◌, ◌/◌, ◌%◌, ◌^◌, List, Bool, eqb, length, get_or, Option, Some, None}
+use Rattle.laws.specs.Pick.{pick, both}
+use Rattle.laws.specs.Within.{within, first_row_above}
 
 abbrev pub font_cells : ℕ
 font_cells = 62
@@ -37,3 +37,7 @@ bit_set row j = eqb (row / 2 ^ (cell_columns - 1 - j) % 2) 1
 -- whether cell c has the dot in row l, column j
 abbrev pub font_dot : List ℕ → ℕ → ℕ → ℕ → Bool
 font_dot font c l j = bit_set (row_of font c l) j
+
+-- the place of the first number above the given one, where there is one
+abbrev pub first_above : ℕ → List ℕ → Option ℕ
+first_above most numbers = pick (within most numbers) None (Some (first_row_above most numbers))

@@ -1,1 +1,2 @@
 pub mod Font
+pub mod Whole

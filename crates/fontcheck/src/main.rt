@@ -3,76 +3,48 @@
 // no exit status.
 #![tactic(auto)]
 
-ghost use Rattle.std.specs.Prelude.{◌≡◌, ◌≤◌, length};
+ghost use Rattle.std.specs.Prelude.{◌≡◌, ◌≤◌, IfOk, length};
 
+use fontline::Line;
+use std::io;
 use std::io::Read;
 
 // A byte more than a text may have.
 const ROOM: usize = 65536;
 
-// The bytes read, and whether they are all there were or as many as there was room for.
-#[derive(Clone, Copy)]
-struct Input {
-    bytes: usize,
-    whole: bool,
-}
-
+// What cannot be told on standard error is told nowhere.
 fn main(rt: HostRuntime) {
+    // With a count beside it, as `read` wants bytes lent, and what was read is a slice of them at once.
     let mut buffer = [0u8; ROOM];
-    let input = read_input(&rt, &mut buffer);
-    if input.whole {
-        let n = input.bytes;
-        let line = fontline::check(&buffer[..n]);
-        let start = line.start;
-        let bytes = line.bytes;
-        if rt.stdout().write_all(&bytes[start..]).is_err() {
-            tell(
-                &rt,
-                b"fontcheck: the line could not be written to standard output\n",
+    match read_input(&rt, &mut buffer) {
+        Ok(count) => {
+            let line = Line(fontline::check(&buffer[..count]));
+            if print!(rt; "{line}").is_err() {
+                let _ = eprintln!(rt;
+                    "fontcheck: the line could not be written to standard output"
+                );
+            }
+        }
+        Err(_) => {
+            let _ = eprintln!(rt;
+                "fontcheck: standard input could not be read; usage: fontcheck <TEXT.hex"
             );
         }
-    } else {
-        tell(
-            &rt,
-            b"fontcheck: standard input could not be read; usage: fontcheck <TEXT.hex\n",
-        );
     }
 }
 
-fn read_input(rt: &HostRuntime, buffer: &mut [u8]) -> Input
-    ensures { (result.bytes ≤ length buffer.new) × (length buffer.new ≡ length buffer.old) }
+// How many bytes were read: all that there were, or as many as there is room for.
+fn read_input(rt: &HostRuntime, buffer: &mut [u8]) -> io::Result<usize>
+    ensures { IfOk result (λ count. count ≤ length buffer.new) × (length buffer.new ≡ length buffer.old) }
 {
     let mut done = 0;
+    // It counts what was read, and no index: std's `read_exact` does not tell how much there was, and `read_to_end` wants heap.
     while done < buffer.len() {
-        let room = &mut buffer[done..];
-        match rt.stdin().read(room) {
-            Err(_) => {
-                return Input {
-                    bytes: done,
-                    whole: false,
-                };
-            }
-            Ok(more) => {
-                if more == 0 {
-                    return Input {
-                        bytes: done,
-                        whole: true,
-                    };
-                }
-                done += more;
-            }
+        let more = rt.stdin().read(&mut buffer[done..])?;
+        if more == 0 {
+            break;
         }
+        done += more;
     }
-    Input {
-        bytes: done,
-        whole: true,
-    }
-}
-
-// What cannot be told on standard error is told nowhere.
-fn tell(rt: &HostRuntime, text: &[u8]) {
-    match rt.stderr().write_all(text) {
-        Ok(()) => {}
-        Err(_) => {}
-    }
+    Ok(done)
 }

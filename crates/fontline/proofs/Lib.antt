@@ -1,4 +1,4 @@
 -- The proofs of this crate that are not of one function.
-pub mod Backed
+pub mod Printed
 pub mod Checking
 pub mod Unique

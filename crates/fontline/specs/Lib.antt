@@ -1,3 +1,2 @@
 -- The account of this crate, for other crates to cite.
 pub mod Lines
-pub mod Steps

@@ -1,16 +1,20 @@
 -- The line that `fontcheck` prints: document 01, 'The character image', last paragraph. The text's image is turned into a font; the line
 -- tells the count of bytes, or the number and the place of whichever step refused.
 -- Assumes nothing.
-use Rattle.std.specs.Prelude.{ℕ, zero, suc, ◌+◌, ◌-◌, ◌/◌, ◌%◌, List, [], ◌∷◌, ◌++◌, eqb, ltb, length, replicate}
+use Rattle.std.specs.Prelude.{◌≡◌, ℕ, zero, suc, ◌+◌, ◌/◌, ◌%◌, List, [], ◌∷◌, ◌++◌, Result, eqb, ltb}
 use Rattle.laws.specs.Pick.{pick}
 use Rattle.laws.specs.Said.{Said}
 use Rattle.font.specs.Font.{font_rows}
 use Rattle.image.specs.Image.{image_bytes}
-use Rattle.image.specs.Image.{answer_of as turning}
+use Rattle.image.specs.Image.{answer_of as turning, number_of as turning_number, place_of as turning_place}
 use Rattle.ihex.specs.Lines.{LF}
 use Rattle.ihex.specs.Reading.{image_in}
-use Rattle.ihex.specs.Reading.{answer_of as reading}
-use Rattle.fontline.specs.declared.Line.{Line}
+use Rattle.ihex.specs.Reading.{answer_of as reading, table_number as reading_number, table_place as reading_place}
+use Rattle.answer.specs.Told.{said_of}
+use Rattle.ihex.specs.declared.ReadError.{ReadError}
+use Rattle.image.specs.declared.NotAFont.{NotAFont}
+use Rattle.fontline.specs.declared.NoFont.{NoFont}
+use Rattle.fontline.specs.declared.NoFont.TheVariants.{Text, Image}
 
 -- what the two steps say: the first that refuses, else the count that reading gives
 unfoldable pub checked : List ℕ → Said
@@ -44,9 +48,21 @@ line_for s =
     pick (eqb s.number 0) (cells_bytes ++ decimal s.value (LF ∷ []))
     (refused_word ++ decimal s.number (at_word ++ decimal s.place (LF ∷ [])))
 
--- a line held at the back of 36 bytes, zeros before it
-abbrev pub room : ℕ
-room = 36
+-- the documents' number and place for each refusal, and what is said of what was checked
+abbrev pub number_of : NoFont → ℕ
+number_of (Text refusal) = reading_number refusal
+number_of (Image refusal) = turning_number refusal
 
-unfoldable pub line_with : List ℕ → Line
-line_with l = record { bytes = replicate (room - length l) 0 ++ l; start = room - length l }
+abbrev pub place_of : NoFont → ℕ
+place_of (Text refusal) = reading_place refusal
+place_of (Image refusal) = turning_place refusal
+
+abbrev pub said : Result ℕ NoFont → Said
+said = said_of (λ count. count) number_of place_of
+
+-- the refusal that `?` makes of the first step's, and of the second's
+abbrev pub IsText : ReadError → NoFont → Type 0
+IsText refusal no_font = no_font ≡ Text refusal
+
+abbrev pub IsImage : NotAFont → NoFont → Type 0
+IsImage refusal no_font = no_font ≡ Image refusal

@@ -1,100 +1,115 @@
 // The line that fontcheck prints for a text.
 #![tactic(auto)]
 
-ghost use Rattle.std.specs.Prelude.{◌≡◌, [], ◌∷◌, ◌<◌, ◌≤◌, length};
-ghost use Rattle.laws.specs.Said.{accepted, refused};
-ghost use Rattle.ihex.specs.Lines.{LF as hex_lf};
-ghost use Rattle.fontline.specs.Lines.{checked, line_for, line_with, room};
-ghost use Rattle.fontline.specs.Steps.{ByteBefore, NumberBefore, WordsBefore};
+ghost use Rattle.std.specs.Prelude.{◌≡◌, Some};
+ghost use Rattle.fontline.specs.Lines.{checked, line_for, number_of, place_of, said, IsText, IsImage};
 
-// The longest line, `refused K at P` with ten digits each, has 33 bytes.
-const ROOM: usize = 36;
+use answer::Refusal;
+use arrayvec::{ArrayString, ArrayVec};
+use ihex::ReadError;
+use image::NotAFont;
+use itoa::Buffer;
+use std::fmt;
 
-// A line at the back of its bytes, from `start` on; the bytes before it are 0.
+// The longest line, `refused K at P` with ten digits each, and its LF.
+const LONGEST: usize = 33;
+
+// Why a text makes no font: it cannot be read, or its image is no font's.
 #[derive(Clone, Copy)]
-pub struct Line {
-    pub bytes: [u8; ROOM],
-    pub start: usize,
+pub enum NoFont {
+    Text(ReadError),
+    Image(NotAFont),
 }
 
-// The line for a text: what reading it and turning its image into a font say.
-pub fn check(text: &[u8]) -> Line
-    ensures { result ≡ line_with (line_for (checked text.now)) }
+impl From<ReadError> for NoFont {
+    ghost from_gives = { IsText };
+
+    fn from(refusal: ReadError) -> NoFont {
+        NoFont::Text(refusal)
+    }
+}
+
+impl From<NotAFont> for NoFont {
+    ghost from_gives = { IsImage };
+
+    fn from(refusal: NotAFont) -> NoFont {
+        NoFont::Image(refusal)
+    }
+}
+
+impl Refusal for NoFont {
+    ghost number_of = { number_of };
+
+    ghost place_of = { place_of };
+
+    fn number(&self) -> u32 {
+        match self {
+            NoFont::Text(refusal) => refusal.number(),
+            NoFont::Image(refusal) => refusal.number(),
+        }
+    }
+
+    fn place(&self) -> u32 {
+        match self {
+            NoFont::Text(refusal) => refusal.place(),
+            NoFont::Image(refusal) => refusal.place(),
+        }
+    }
+}
+
+// What reading a text and turning its image into a font come to: how many bytes the records give, or the first refusal.
+pub fn check(text: &[u8]) -> Result<u32, NoFont>
+    ensures { said result ≡ checked text.now }
 {
     let mut image = [0u8; image::IMAGE_BYTES];
     let mut font = [0u16; font::FONT_ROWS];
-    let read = answer::read_answer(ihex::read(text, &mut image));
-    if read.number != 0 {
-        return refused_line(read.number, read.place);
+    let count = ihex::read(text, &mut image)?;
+    image::image_to_font(&image, &mut font)?;
+    Ok(count)
+}
+
+// The line for what was checked.
+#[derive(Clone, Copy)]
+pub struct Line(pub Result<u32, NoFont>);
+
+impl Line {
+    // The bytes of the line, its LF with them, promised without condition: `Display` promises them only where printing returns no error.
+    // They are no `ArrayString`, since what that leaves unused would be a second answer.
+    pub fn text(&self) -> ArrayVec<u8, LONGEST>
+        ensures { result.items ≡ line_for (said self.now.0) }
+    {
+        let Ok(bytes) = ArrayVec::try_from(self.spelled().as_bytes()) else {
+            unreachable!();
+        };
+        bytes
     }
-    let turned = answer::turned_answer(image::image_to_font(&image, &mut font));
-    if turned.number != 0 {
-        return refused_line(turned.number, turned.place);
+
+    // The line as text, for both of its uses.
+    fn spelled(&self) -> ArrayString<LONGEST>
+        ensures { result.bytes ≡ line_for (said self.now.0) }
+    {
+        let mut text = ArrayString::new();
+        match self.0 {
+            Ok(bytes) => {
+                text.push_str("cells 62 bytes ");
+                text.push_str(Buffer::new().format(bytes));
+            }
+            Err(refusal) => {
+                text.push_str("refused ");
+                text.push_str(Buffer::new().format(refusal.number()));
+                text.push_str(" at ");
+                text.push_str(Buffer::new().format(refusal.place()));
+            }
+        }
+        text.push_str("\n");
+        text
     }
-    accepted_line(read.value)
 }
 
-fn accepted_line(count: u32) -> Line
-    ensures { result ≡ line_with (line_for (accepted count)) }
-{
-    words_before(b"cells 62 bytes ", number_before(count, ended()))
-}
+impl fmt::Display for Line {
+    ghost output = { λ line. Some (line_for (said line.0)) };
 
-fn refused_line(number: u32, place: u32) -> Line
-    requires { 0 < number }
-    ensures { result ≡ line_with (line_for (refused number place)) }
-{
-    words_before(
-        b"refused ",
-        number_before(number, words_before(b" at ", number_before(place, ended()))),
-    )
-}
-
-// The line's end alone.
-fn ended() -> Line
-    ensures { result ≡ line_with (hex_lf ∷ []) }
-{
-    let mut bytes = [0u8; ROOM];
-    let start = ROOM - 1;
-    bytes[start] = ihex::LF;
-    Line { bytes, start }
-}
-
-// One byte before a line.
-fn byte_before(byte: u8, line: Line) -> Line
-    requires { (0 < line.start) × (line.start ≤ room) }
-    ensures { ByteBefore byte line result }
-{
-    let start = line.start - 1;
-    let mut bytes = line.bytes;
-    bytes[start] = byte;
-    Line { bytes, start }
-}
-
-// A number in decimal before a line.
-fn number_before(n: u32, line: Line) -> Line
-    requires { (10 ≤ line.start) × (line.start ≤ room) }
-    ensures { NumberBefore n line result }
-{
-    let mut rest = n;
-    let mut line = line;
-    while 9 < rest {
-        line = byte_before(48 + (rest % 10) as u8, line);
-        rest /= 10;
+    fn fmt<W: fmt::Write>(&self, f: &mut fmt::Formatter<W>) -> fmt::Result {
+        f.write_str(self.spelled().as_str())
     }
-    byte_before(48 + rest as u8, line)
-}
-
-// Words before a line.
-fn words_before(words: &[u8], line: Line) -> Line
-    requires { (length words.now ≤ line.start) × (line.start ≤ room) }
-    ensures { WordsBefore words.now line result }
-{
-    let mut i = words.len();
-    let mut line = line;
-    while 0 < i {
-        i -= 1;
-        line = byte_before(words[i], line);
-    }
-    line
 }

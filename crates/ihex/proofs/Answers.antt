@@ -1,10 +1,8 @@
 -- The reader's answers at a line of the record's shape, in the values that the code has: the eight-bit sum and the next line's place as
 -- parsed, and the record's bytes in the room for one record. Each is the verdict, or the next turn's start.
 -- Assumes nothing.
-use Rattle.std.proofs.Common.{◌≡◌, ℕ, ◌+◌, ◌*◌, ◌<◌, ◌≤◌, Bool, true, false, ltb, List, [], ◌∷◌, ◌++◌, length, get_or, take, drop, sym, ap, ◌∙◌, add-one, arith, take_all, take-suc, w8, le-ltb, lt-ltb, eqb-true, le-leb}
-use native.Mathlib.Decide.{ℕ_discrete, dec_lt}
-use borrow.Table.Referent.{f_int}
-use borrow.Rule.Slice.Know.{Fit}
+use Rattle.std.proofs.Common.{◌≡◌, ℕ, ◌+◌, ◌*◌, ◌<◌, ◌≤◌, Bool, true, false, Some, None, Result, Ok, ltb, List, [], ◌∷◌, ◌++◌, length, get_or, take, drop, sym, ap, ◌∙◌, add-one, arith, take_all, take-suc, le-ltb, eqb-true, le-leb}
+use native.Mathlib.Decide.{ℕ_discrete}
 use borrow.Author.Tests.{eqb-false}
 use Rattle.laws.specs.Pick.{pick}
 use Rattle.laws.specs.Said.{accepted, refused}
@@ -14,34 +12,23 @@ use Rattle.laws.proofs.Said.{number_of, said_by}
 use Rattle.ihex.specs.Lines.{body_of}
 use Rattle.ihex.specs.Records.{has_bad, records, is_shaped, length_of, address_of, type_of, sum_of, is_end, fresh_in, fault_of, byte_in, gives, data_at}
 use Rattle.ihex.specs.Reading.{said, fault_said, verdict}
-use Rattle.ihex.specs.Steps.{Collected, Parsed, Stored, record_at, next_at, line_at, ended_by}
+use Rattle.ihex.specs.Steps.{Collected, Parsed, record_at, next_at, line_at}
 use Rattle.ihex.specs.declared.Line.{Line}
-use Rattle.ihex.specs.declared.Line.TheVariants.{Shaped, Unshaped}
-use Rattle.ihex.specs.declared.Outcome.{Outcome}
+use Rattle.ihex.specs.declared.ReadError.{ReadError}
 use Rattle.ihex.proofs.Faults.{fault_told, fault_shape, is_end_law, other_type, long_end, far_end, fault_sum, fault_type, fault_end, fault_past, fault_twice, fault_none}
-use Rattle.ihex.proofs.Steps.{ended_long, ended_far, ended_more, ended_done}
 use Rattle.ihex.proofs.Shape.{shaped_fits}
-use Rattle.ihex.proofs.Given.{front_at, in_append, in_one}
+use Rattle.ihex.proofs.Given.{front_at, in_append, in_one, Laid}
 use Rattle.ihex.proofs.Passed.{Passed, line_shaped, line_unshaped, verdict_over, k_below, record_here, whole_here, next_fits, is_last, not_last, verdict_fault, verdict_more, verdict_done, fresh_here, passed_more}
 
 -- the line at this place, parsed; its record's bytes stand in the room for one record
-pub record Met (text : List ℕ) (at count : ℕ) (scratch bytes : List ℕ) (sum next : ℕ) : Type 0 where
+pub record Met (text : List ℕ) (at count : ℕ) (scratch bytes : List ℕ) (here : Line) : Type 0 where
   pub before : Passed text at count scratch
   pub more : at < length text
-  pub line : Shaped sum next ≡ line_at text at
+  pub line : Some here ≡ line_at text at
   pub front : take (length (record_at text at)) bytes ≡ record_at text at
 
--- a turn of the reader's loop
-pub record Turn (text bytes₀ scratch₀ bytes scratch : List ℕ) (at count : ℕ) : Type 0 where
-  pub passed : Passed text at count scratch
-  pub room : length bytes ≡ length bytes₀
-  pub whole : length scratch ≡ length scratch₀
-
-pub bytes_fit : {text : List ℕ} {at : ℕ} {bytes : List ℕ} {r : Line} → Parsed text at bytes r → Fit (f_int w8) 0 bytes → Fit (f_int w8) 0 bytes
-bytes_fit parsed fit = fit
-
 -- a refusal is an answer by its number and place
-pub refused_by : {text scratch : List ℕ} {x : Outcome} {number place : ℕ} → refused number place ≡ verdict text
+pub refused_by : {text scratch : List ℕ} {x : Result ℕ ReadError} {number place : ℕ} → refused number place ≡ verdict text
     → ((said x).number ≡ number) × ((said x).place ≡ place) × ((said x).value ≡ 0) × (0 < number) → Collected text scratch x
 refused_by is (number, place, value, some) = record { says = said_by is number place value; held = λ e. absurd (omega arith) }
 
@@ -54,18 +41,24 @@ module _ {text : List ℕ} {at count : ℕ} {scratch : List ℕ} (before : Passe
   pub over : length text ≤ at → refused 12 at ≡ verdict text
   over h = sym (verdict_over text at count scratch before h)
 
-  module _ (more : at < length text) {bytes : List ℕ} {r : Line} (parsed : Parsed text at bytes r) where
-    pub meets : {sum next : ℕ} → r ≡ Shaped sum next → Met text at count scratch bytes sum next
-    meets told = record { before = before; more = more; line = sym told ∙ parsed.line; front = parsed.front }
+  module _ (more : at < length text) {bytes : List ℕ} where
+    pub meets : {here : Line} → Parsed text at bytes (Some here) → Met text at count scratch bytes here
+    meets parsed = record { before = before; more = more; line = parsed.line; front = parsed.front }
 
-    pub meets_none : {x : Outcome} → r ≡ Unshaped → said x ≡ fault_said (body_of (drop at text)) at 20 → Collected text scratch x
-    meets_none told is =
+    pub meets_none : {x : Result ℕ ReadError} → Parsed text at bytes None → said x ≡ fault_said (body_of (drop at text)) at 20 → Collected text scratch x
+    meets_none parsed is =
         record {
-          says = is ∙ sym (verdict_fault text at count scratch before more 20 (omega arith) (fault_shape _ _ (line_unshaped text at (sym told ∙ parsed.line))));
+          says = is ∙ sym (verdict_fault text at count scratch before more 20 (omega arith) (fault_shape _ _ (line_unshaped text at parsed.line)));
           held = λ e. absurd (omega (arith, number_of is, fault_told (body_of (drop at text)) at 20 (omega arith)));
         }
 
-module _ {text : List ℕ} {at count : ℕ} {scratch bytes : List ℕ} {sum next : ℕ} (met : Met text at count scratch bytes sum next) where
+module _ {text : List ℕ} {at count : ℕ} {scratch bytes : List ℕ} {here : Line} (met : Met text at count scratch bytes here) where
+  abbrev sum : ℕ
+  sum = here.sum
+
+  abbrev next : ℕ
+  next = here.next
+
   abbrev before : Passed text at count scratch
   before = met.before
 
@@ -73,10 +66,10 @@ module _ {text : List ℕ} {at count : ℕ} {scratch bytes : List ℕ} {sum next
   more = met.more
 
   shaped : is_shaped (body_of (drop at text)) ≡ true
-  shaped = (line_shaped text at sum next met.line).0
+  shaped = (line_shaped text at here met.line).0
 
   next_is : next ≡ next_at text at
-  next_is = (line_shaped text at sum next met.line).2
+  next_is = (line_shaped text at here met.line).2
 
   whole : length (record_at text at) ≡ 5 + length_of (record_at text at)
   whole = whole_here text at count scratch before more shaped
@@ -99,11 +92,11 @@ module _ {text : List ℕ} {at count : ℕ} {scratch bytes : List ℕ} {sum next
       (omega (arith, fits.0, next_is), omega (arith, fits.1, next_is, byte 0 (omega arith)))
 
   pub met_sum : (sum ≡ 0 → ⊥) → refused 8 at ≡ verdict text
-  met_sum h = fault_is 8 (omega arith) (fault_sum _ _ some (λ e. h ((line_shaped text at sum next met.line).1 ∙ e)))
+  met_sum h = fault_is 8 (omega arith) (fault_sum _ _ some (λ e. h ((line_shaped text at here met.line).1 ∙ e)))
 
   module _ (zero_sum : sum ≡ 0) where
     summed : sum_of (record_at text at) ≡ 0
-    summed = sym (line_shaped text at sum next met.line).1 ∙ zero_sum
+    summed = sym (line_shaped text at here met.line).1 ∙ zero_sum
 
     -- the end record's type
     module _ (kind : get_or bytes 3 0 ≡ 1) where
@@ -174,7 +167,7 @@ module _ {text : List ℕ} {at count : ℕ} {scratch bytes : List ℕ} {sum next
         met_past h = fault_is 10 (omega arith) (fault_past _ _ some summed no_end typed_data (omega (arith, byte 0 (omega arith), address_is)))
 
         module _ (fits : 256 * get_or bytes 1 0 + get_or bytes 2 0 + get_or bytes 0 0 ≤ 8192) {after : List ℕ} {fresh : Bool}
-            (stored : Stored bytes (get_or bytes 0 0) (256 * get_or bytes 1 0 + get_or bytes 2 0) scratch after fresh) where
+            (stored : Laid bytes (get_or bytes 0 0) (256 * get_or bytes 1 0 + get_or bytes 2 0) scratch after fresh) where
           ends_within : address_of (record_at text at) + length_of (record_at text at) ≤ 8192
           ends_within = omega (arith, byte 0 (omega arith), address_is)
 
@@ -215,25 +208,23 @@ module _ {text : List ℕ} {at count : ℕ} {scratch bytes : List ℕ} {sum next
 
   -- with the address that it reads
   module _ {address : ℕ} (reads : address ≡ address_of bytes) where
-    pub said_ended : (place after : ℕ) (more : Bool) (x : Outcome) → (sum ≡ 0) × (kind ≡ 1) × (place ≡ at) × (after ≡ next) → more ≡ ltb next (length text)
-        → x ≡ ended_by n address place more after count → Collected text scratch x
-    said_ended place after more x (z, k, here, there) follows is = go (ℕ_discrete n 0) (ℕ_discrete address 0) (dec_lt next (length text))
+    pub said_long : (sum ≡ 0) × (kind ≡ 1) → (n ≡ 0 → address ≡ 0 → ⊥) → refused 9 at ≡ verdict text
+    said_long (z, k) h = go (ℕ_discrete n 0)
       where
-        go : Dec (n ≡ 0) → Dec (address ≡ 0) → Dec (next < length text) → Collected text scratch x
-        go (no d) _ _ = rw (is ∙ ended_long n address place more after count d) (refused_by (met_long_end z k d) (omega arith))
-        go (yes e) (no d) _ =
-            rw (is ∙ ended_far n address place more after count e d) (refused_by (met_far_end z k e (λ a. d (reads ∙ a))) (omega arith))
-        go (yes e) (yes a) (yes l) =
-            rw (is ∙ ended_more n address place more after count e a (follows ∙ lt-ltb next (length text) l))
-            (refused_by (met_more z k e (sym reads ∙ a) l) (omega arith))
-        go (yes e) (yes a) (no l) =
-            rw (is ∙ ended_done n address place more after count e a (follows ∙ le-ltb next (length text) (omega arith)))
-            (record { says = met_done z k e (sym reads ∙ a) (omega arith); held = λ d. met_all z k e (sym reads ∙ a) (omega arith) })
+        go : Dec (n ≡ 0) → refused 9 at ≡ verdict text
+        go (no e) = met_long_end z k e
+        go (yes e) = met_far_end z k e (λ a. h e (reads ∙ a))
+
+    pub said_more : (sum ≡ 0) × (kind ≡ 1) × (n ≡ 0) × (address ≡ 0) × (next < length text) → refused 12 next ≡ verdict text
+    said_more (z, k, e, a, l) = met_more z k e (sym reads ∙ a) l
+
+    pub said_done : (sum ≡ 0) × (kind ≡ 1) × (n ≡ 0) × (address ≡ 0) × (length text ≤ next) → Collected text scratch (Ok count)
+    said_done (z, k, e, a, l) = record { says = met_done z k e (sym reads ∙ a) l; held = λ d. met_all z k e (sym reads ∙ a) l }
 
     pub said_past : (sum ≡ 0) × (kind ≡ 1 → ⊥) × (kind ≡ 0) × (8192 < address + n) → refused 10 at ≡ verdict text
     said_past (z, k, d, h) = met_past z k d (omega (arith, reads))
 
-    module _ {after : List ℕ} {fresh : Bool} (stored : Stored bytes n address scratch after fresh)
+    module _ {after : List ℕ} {fresh : Bool} (stored : Laid bytes n address scratch after fresh)
         (tested : (sum ≡ 0) × (kind ≡ 1 → ⊥) × (kind ≡ 0) × (address + n ≤ 8192)) where
       fits : address_of bytes + n ≤ 8192
       fits = omega (arith, reads, tested)

@@ -1,14 +1,14 @@
 -- The search for a line's first bad character: k characters of the line that starts at a place are passed, none of them bad and no end before
 -- any of them. What stands behind them then decides: an end, and the line has no bad character, or one that does not belong there.
 -- Assumes nothing.
-use Rattle.std.proofs.Common.{◌≡◌, ℕ, ◌+◌, ◌<◌, ◌≤◌, true, false, not, List, length, get_or, drop, ap, ◌∙◌, arith, get_or-drop, get_or-take, drop-drop, below_more, lt-ltb}
+use Rattle.std.proofs.Common.{◌≡◌, ℕ, zero, suc, ◌+◌, ◌<◌, ◌≤◌, true, false, not, List, length, get_or, drop, ap, ◌∙◌, arith, get_or-drop, get_or-take, drop-drop, drop-cons, below_more, lt-ltb}
 use Rattle.laws.specs.Said.{refused}
 use Rattle.laws.proofs.Lists.{first_is}
-use Rattle.ihex.specs.Lines.{at_end, body_of}
+use Rattle.ihex.specs.Lines.{Plain, at_end, body_of}
 use Rattle.ihex.specs.Records.{belongs, first_bad, has_bad}
 use Rattle.ihex.specs.Reading.{fault_said}
-use Rattle.ihex.proofs.Lines.{body_cuts, body_goes, body_stops}
-use Rattle.ihex.proofs.Shape.{each_belongs}
+use Rattle.ihex.proofs.Lines.{not_end, body_cuts, body_goes, body_stops}
+use Rattle.ihex.proofs.Shape.{colon_first, digit_later, digit_plain, each_belongs}
 
 pub record Searched (text : List ℕ) (at k : ℕ) : Type 0 where
   pub within : at + k ≤ length text
@@ -17,6 +17,14 @@ pub record Searched (text : List ℕ) (at k : ℕ) : Type 0 where
 
 pub searched_none : (text : List ℕ) (at : ℕ) → at ≤ length text → Searched text at 0
 searched_none text at h = record { within = omega arith; goes = λ j l. absurd (omega arith); fits = λ j l. absurd (omega arith) }
+
+-- a character in its place is no part of a line's end
+belongs_plain : (k c : ℕ) → belongs k c ≡ true → Plain c
+belongs_plain zero c e = let colon = colon_first c e in (λ f. omega arith, λ f. omega arith)
+belongs_plain (suc k) c e = let one : suc k ≡ 1 + k = omega arith in digit_plain c (digit_later k c (rw one at e))
+
+pub belongs_goes : (text : List ℕ) (k place : ℕ) → place < length text → belongs k (get_or text place 0) ≡ true → at_end (drop place text) ≡ false
+belongs_goes text k place h e = rw (drop-cons text place 0 h) (not_end (get_or text place 0) (drop (suc place) text) (belongs_plain k (get_or text place 0) e))
 
 module _ {text : List ℕ} {at k : ℕ} (so_far : Searched text at k) where
   pub searched_more : at + k < length text → at_end (drop (at + k) text) ≡ false → belongs k (get_or text (at + k) 0) ≡ true → Searched text at (k + 1)

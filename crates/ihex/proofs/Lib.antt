@@ -9,3 +9,4 @@ pub mod Passed
 pub mod Answers
 pub mod Outcomes
 pub mod Unique
+pub mod Codes

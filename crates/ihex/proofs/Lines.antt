@@ -11,7 +11,7 @@ pub lines_nil : lines [] ≡ []
 unfolding lines
 lines_nil = refl
 
-not_end : (c : ℕ) (s : List ℕ) → Plain c → at_end (c ∷ s) ≡ false
+pub not_end : (c : ℕ) (s : List ℕ) → Plain c → at_end (c ∷ s) ≡ false
 unfolding at_end
 not_end c s p = simp (ne_eqb c 10 p.0, ne_eqb c 13 p.1)
 

@@ -1,26 +1,24 @@
 -- How far a reading has come: k lines passed without a stop, the next one starting here, the scratch and the count those of their
 -- records. Each turn of the reader's loop adds one line, and each of its answers is the verdict, by what the next line is.
 -- Assumes nothing.
-use Rattle.std.proofs.Common.{◌≡◌, ℕ, ◌+◌, ◌*◌, ◌<◌, ◌≤◌, Bool, true, false, eqb, ltb, List, [], ◌∷◌, ◌++◌, map, length, get_or, take, drop, sym, refl, ap, ◌∙◌, not-suc-le-zero, add-zero, add-one, arith, length-drop, drop_of_length-le, get_or-drop, take_all, take-suc, drop-drop, below_more, le-ltb, lt-ltb}
-use mathlib.Core.Bool.{false≢true}
+use Rattle.std.proofs.Common.{◌≡◌, ℕ, ◌+◌, ◌*◌, ◌<◌, ◌≤◌, Bool, true, false, Some, None, eqb, ltb, List, [], ◌∷◌, ◌++◌, map, length, get_or, take, drop, sym, refl, ap, ◌∙◌, not-suc-le-zero, add-zero, add-one, arith, length-drop, drop_of_length-le, get_or-drop, take_all, take-suc, drop-drop, below_more, le-ltb, lt-ltb}
 use lib.ListN.{length-map, length-replicate, get_or-replicate, get_or-map}
 use Rattle.laws.specs.Pick.{pick}
 use Rattle.laws.specs.Said.{accepted, refused}
 use Rattle.laws.specs.Lists.{tabulate, first_of}
 use Rattle.laws.specs.Sums.{sum_all}
 use Rattle.laws.proofs.Sums.{sum_take}
-use Rattle.laws.proofs.Lists.{is_tabulate, first_is, first_none, first_same, first_before, get_d_tabulate, length_tabulate, take_map}
+use Rattle.laws.proofs.Lists.{is_tabulate, first_is, first_none, first_same, first_before, get_or_tabulate, length_tabulate, take_map}
 use Rattle.ihex.specs.Digits.{digit, byte_at, bytes_from}
 use Rattle.ihex.specs.Lines.{body_of, lines, onto, place_of}
 use Rattle.ihex.specs.Records.{frame, sum_of, address_of, is_given, fresh_in, records, record_of, spelled_by, is_shaped, length_of, byte_in, count_of, fault_of, is_end}
 use Rattle.ihex.specs.Reading.{nth, fault_at, stops_at, stop_of, fault_said, judged, verdict}
-use Rattle.ihex.specs.Steps.{unfilled, stored_at, record_at, next_at, line_at}
+use Rattle.ihex.specs.Steps.{unfilled, record_at, next_at, line_at}
 use Rattle.ihex.specs.declared.Line.{Line}
-use Rattle.ihex.specs.declared.Line.TheVariants.{Shaped, Unshaped}
 use Rattle.ihex.proofs.Lines.{lines_nil, first_body}
 use Rattle.ihex.proofs.Shape.{size_at, Shape, shape_has}
 use Rattle.ihex.proofs.Place.{lines_here, next_within, next_here}
-use Rattle.ihex.proofs.Given.{spelled_length, scratch_given, stored_all}
+use Rattle.ihex.proofs.Given.{stored_at, spelled_length, scratch_given, stored_all}
 
 -- a text that is not over has a line
 lines_some : (s : List ℕ) → 0 < length s → 0 < length (lines s)
@@ -34,30 +32,27 @@ lines_some (c ∷ s) h = go (eqb c 10) (lines s)
     go false (l ∷ ls) = omega arith
 
 -- what a parsed line says
-not_shaped : (sum next : ℕ) → Shaped sum next ≡ Unshaped → ⊥
-not_shaped sum next e = false≢true (sym (ap is_line e))
-  where
-    is_line : Line → Bool
-    is_line (Shaped sum next) = true
-    is_line Unshaped = false
-
-pub line_shaped : (text : List ℕ) (at sum next : ℕ) → Shaped sum next ≡ line_at text at
-    → (is_shaped (body_of (drop at text)) ≡ true) × (sum ≡ sum_of (record_at text at)) × (next ≡ next_at text at)
+pub line_shaped : (text : List ℕ) (at : ℕ) (line : Line) → Some line ≡ line_at text at
+    → (is_shaped (body_of (drop at text)) ≡ true) × (line.sum ≡ sum_of (record_at text at)) × (line.next ≡ next_at text at)
 unfolding line_at
-line_shaped text at sum next e = go (is_shaped (body_of (drop at text))) e
+line_shaped text at line e = go (is_shaped (body_of (drop at text))) e
   where
-    go : (b : Bool) → Shaped sum next ≡ pick b (Shaped (sum_of (record_at text at)) (next_at text at)) Unshaped
-        → (b ≡ true) × (sum ≡ sum_of (record_at text at)) × (next ≡ next_at text at)
-    go true e = (refl, cc, cc)
-    go false e = absurd (not_shaped sum next e)
+    told : Line
+    told = record { sum = sum_of (record_at text at); next = next_at text at }
 
-pub line_unshaped : (text : List ℕ) (at : ℕ) → Unshaped ≡ line_at text at → record_at text at ≡ []
+    go : (b : Bool) → Some line ≡ pick b (Some told) None → (b ≡ true) × (line.sum ≡ told.sum) × (line.next ≡ told.next)
+    go true e = let is : line ≡ told = cc in (refl, ap (λ (l : Line). l.sum) is, ap (λ (l : Line). l.next) is)
+    go false e = absurd cc
+
+pub line_unshaped : (text : List ℕ) (at : ℕ) → None ≡ line_at text at → record_at text at ≡ []
 unfolding line_at record_at spelled_by
 line_unshaped text at e = go (is_shaped (body_of (drop at text))) e
   where
-    go : (b : Bool) → Unshaped ≡ pick b (Shaped (sum_of (record_at text at)) (next_at text at)) Unshaped
-        → pick b (bytes_from (body_of (drop at text)) 1 (frame + byte_at (body_of (drop at text)) 1)) [] ≡ []
-    go true e = absurd (not_shaped _ _ (sym e))
+    told : Line
+    told = record { sum = sum_of (spelled_by (body_of (drop at text))); next = next_at text at }
+
+    go : (b : Bool) → None ≡ pick b (Some told) None → pick b (bytes_from (body_of (drop at text)) 1 (frame + byte_at (body_of (drop at text)) 1)) [] ≡ []
+    go true e = absurd cc
     go false e = refl
 
 -- no line, no record
@@ -203,7 +198,7 @@ module _ (text : List ℕ) (at count : ℕ) (scratch : List ℕ) (before : Passe
             first_same n _ (λ i. is_given (take before.k (records text)) (address + i)) (λ i h.
             let e : take before.k (records text) ≡ map record_of (take before.k (lines text)) = take_map record_of before.k (lines text) in
             ap (λ l. ltb (get_or l (address + i) 0) 256) before.held
-            ∙ ap (λ x. ltb x 256) (get_d_tabulate 8192 (byte_in 256 (take before.k (records text))) (address + i) 0 (omega arith))
+            ∙ ap (λ x. ltb x 256) (get_or_tabulate 8192 (byte_in 256 (take before.k (records text))) (address + i) 0 (omega arith))
             ∙ ap (λ (rs : List (List ℕ)). ltb (byte_in 256 rs (address + i)) 256) e ∙ scratch_given (take before.k (lines text)) (address + i)
             ∙ ap (λ (rs : List (List ℕ)). is_given rs (address + i)) (sym e))
             ∙ ap (λ m. first_of m (λ i. is_given (take before.k (records text)) (address + i))) sized

@@ -66,7 +66,7 @@ pub fits_shaped : (body : List ℕ) → Fits body → is_shaped body ≡ true
 unfolding is_shaped
 fits_shaped body fits = rw fits.clean (eq-eqb (length body) (1 + 2 * (5 + byte_at body 1)) fits.size)
 
-digit_plain : (c : ℕ) → digit c < 16 → Plain c
+pub digit_plain : (c : ℕ) → digit c < 16 → Plain c
 unfolding digit
 digit_plain c h = (λ e. omega (arith, ap digit e), λ e. omega (arith, ap digit e))
 

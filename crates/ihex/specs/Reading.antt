@@ -2,15 +2,16 @@
 -- A text is accepted where its lines are good records, the last of them its one end record; its image is what the records spell over FF, its
 -- count what they give. Which fault is told, and where, is the first line that stops a reader: a faulty record or an end record.
 -- Assumes nothing.
-use Rattle.std.specs.Prelude.{ℕ, ◌+◌, Bool, true, List, [], ◌++◌, length, take, drop, ◌==◌, nat_lt, slice_index_or}
+use Rattle.std.specs.Prelude.{ℕ, ◌+◌, Bool, true, List, [], ◌++◌, Result, length, take, drop, ◌==◌, nat_lt, slice_index_or}
 use Rattle.laws.specs.Pick.{pick}
 use Rattle.laws.specs.Said.{Said, accepted, refused}
 use Rattle.laws.specs.Lists.{tabulate, first_of}
 use Rattle.image.specs.Image.{image_bytes, unused}
 use Rattle.ihex.specs.Lines.{lines, body_of, place_of}
 use Rattle.ihex.specs.Records.{first_bad, has_bad, records, is_end, byte_in, count_of, fault_of}
-use Rattle.ihex.specs.declared.Outcome.{Outcome}
-use Rattle.ihex.specs.declared.Outcome.TheVariants.{Done, NoRoom, TooLong, BadCharacter, BadShape, BadSum, BadType, PastEnd, GivenTwice, BadEnd}
+use Rattle.answer.specs.Told.{said_of}
+use Rattle.ihex.specs.declared.ReadError.{ReadError}
+use Rattle.ihex.specs.declared.ReadError.TheVariants.{NoRoom, TooLong, BadCharacter, BadShape, BadSum, BadType, PastEnd, GivenTwice, BadEnd}
 
 abbrev pub most_text : ℕ
 most_text = 65535
@@ -59,15 +60,29 @@ image_in text = tabulate image_bytes (byte_in unused (records text))
 unfoldable pub left_of : List ℕ → List ℕ → List ℕ
 left_of text room = pick ((answer_of text (length room)).number == 0) (image_in text ++ drop image_bytes room) room
 
--- the documents' number, place and value for each case
-abbrev pub said : Outcome → Said
-said (Done count) = accepted count
-said NoRoom = refused 6 0
-said TooLong = refused 7 0
-said (BadCharacter place) = refused 19 place
-said (BadShape place) = refused 20 place
-said (BadSum place) = refused 8 place
-said (BadType place) = refused 9 place
-said (PastEnd place) = refused 10 place
-said (GivenTwice place) = refused 11 place
-said (BadEnd place) = refused 12 place
+-- the documents' number for each case of refusal, and its place
+abbrev pub table_number : ReadError → ℕ
+table_number NoRoom = 6
+table_number TooLong = 7
+table_number (BadCharacter place) = 19
+table_number (BadShape place) = 20
+table_number (BadSum place) = 8
+table_number (BadType place) = 9
+table_number (PastEnd place) = 10
+table_number (GivenTwice place) = 11
+table_number (BadEnd place) = 12
+
+abbrev pub table_place : ReadError → ℕ
+table_place NoRoom = 0
+table_place TooLong = 0
+table_place (BadCharacter place) = place
+table_place (BadShape place) = place
+table_place (BadSum place) = place
+table_place (BadType place) = place
+table_place (PastEnd place) = place
+table_place (GivenTwice place) = place
+table_place (BadEnd place) = place
+
+-- the documents' number, place and value of an answer
+abbrev pub said : Result ℕ ReadError → Said
+said = said_of (λ count. count) table_number table_place

@@ -1,4 +1,5 @@
 // The value of each byte as a hexadecimal digit of either case, or 16.
+// 16, and no Option: the bits of all values of a record, taken together, then tell a bad digit; a test of each made reading a ninth longer, past the goal of 1.1 in docs/PERFORMANCE.md.
 pub const DIGITS: [u8; 256] = [
     16, 16, 16, 16, 16, 16, 16, 16, 16, 16, 16, 16, 16, 16, 16, 16, 16, 16, 16, 16, 16, 16, 16, 16,
     16, 16, 16, 16, 16, 16, 16, 16, 16, 16, 16, 16, 16, 16, 16, 16, 16, 16, 16, 16, 16, 16, 16, 16,

@@ -1,4 +1,4 @@
-pub mod Rows
+pub mod First
 pub mod Spared
 pub mod Strides
 pub mod Turning

@@ -1,17 +1,29 @@
 -- A stride of the image lacks nothing where the places of a cell's rows reach the least byte of its first address and the others have all
 -- bits set: the least byte changes only after the rows.
 -- Assumes nothing.
-use mathlib.Core.Path.{◌≡◌, sym, ◌∙◌, ap}
-use mathlib.Core.Bool.{Bool, true, false}
-use mathlib.Core.List.{List}
-use Prim.Native.Nat.{ℕ, ◌+◌, ◌-◌, ◌/◌, ◌%◌, ◌<◌, ◌≤◌}
+use Rattle.std.proofs.Common.{◌≡◌, ℕ, ◌+◌, ◌-◌, ◌/◌, ◌%◌, ◌<◌, ◌≤◌, Bool, true, false, ◌||◌, nat_lt, zero, suc, List, [], ◌∷◌, length, get_or, take, drop, fold, ltb, refl, sym, ◌∙◌, ap, arith, length-take, length-drop}
+use Rattle.std.proofs.lemmas.List.{get_or-take, get_or-drop}
+use Rattle.std.proofs.lemmas.List.Folds.{fold_stays}
 use native.Mathlib.Decide.{dec_lt}
-use native.Mathlib.Omega.{arith}
-use lib.Dec.{ltb}
-use lib.ListN.{get_or}
-use borrow.Author.Tests.{lt-ltb, le-ltb}
+use Rattle.std.proofs.lemmas.Bool.{lt-ltb, le-ltb, ltb-false, false≢true}
 use Rattle.laws.specs.Pick.{pick}
 use Rattle.image.specs.Image.{least_at, lacks_at, has_row}
+
+-- of bytes among which none is found below a bound each reaches it
+pub none_below : (bound : ℕ) (xs : List ℕ) → fold (λ below byte. below || nat_lt byte bound) false xs ≡ false → (k : ℕ) → k < length xs → bound ≤ get_or xs k 0
+none_below bound [] e k h = absurd (omega arith)
+none_below bound (x ∷ xs) e k h = go (ltb x bound) refl (none_below bound xs) e k h
+  where
+    go : (b : Bool) → ltb x bound ≡ b → (fold (λ below byte. below || nat_lt byte bound) false xs ≡ false → (k : ℕ) → k < length xs → bound ≤ get_or xs k 0)
+        → fold (λ below byte. below || nat_lt byte bound) b xs ≡ false → (k : ℕ) → k < length (x ∷ xs) → bound ≤ get_or (x ∷ xs) k 0
+    go true s rest r k h = absurd (false≢true (sym r ∙ fold_stays (λ below byte. below || nat_lt byte bound) true (λ byte. refl) xs))
+    go false s rest r zero h = ltb-false x bound s
+    go false s rest r (suc k) h = rest r k (omega arith)
+
+pub part_reaches : (image : List ℕ) (bound from n : ℕ) → from + n ≤ length image
+    → ((k : ℕ) → k < length (take n (drop from image)) → bound ≤ get_or (take n (drop from image)) k 0) → (k : ℕ) → k < n → bound ≤ get_or image (from + k) 0
+part_reaches image bound from n fits reach k h =
+    omega (arith, reach k (omega (arith, length-take n (drop from image), length-drop from image)), get_or-take n (drop from image) k 0 h, get_or-drop from image k 0)
 
 least_most : (address : ℕ) → least_at address ≤ 255
 unfolding least_at

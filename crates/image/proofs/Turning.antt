@@ -16,7 +16,7 @@ use Rattle.laws.specs.Said.{Said, accepted, refused}
 use Rattle.font.specs.Font.{is_font, row_of}
 use Rattle.image.specs.Image.{image_of, font_of, half_at, due_at, row_in, low_at, cell_at, row_at, has_row, least_at, lacks_at, first_lacking, answer_of}
 use Rattle.font.proofs.Each.{within_at, within_each, font_tests}
-use Rattle.laws.proofs.Lists.{length_tabulate, get_d_tabulate, is_tabulate, first_none, first_before}
+use Rattle.laws.proofs.Lists.{length_tabulate, get_or_tabulate, is_tabulate, first_none, first_before}
 
 -- a font's rows
 pub font_length : (font : List ℕ) → is_font font ≡ true → length font ≡ 1116
@@ -75,8 +75,8 @@ pub font_again : (font : List ℕ) → is_font font ≡ true → font_of (image_
 unfolding row_in
 font_again font e =
     sym (is_tabulate 0 1116 (row_in (image_of font)) font (font_length font e) (λ k h.
-    let low = get_d_tabulate 8192 (due_at font) (low_at k) 0 (omega arith) ∙ low_due font k h in
-    let high = get_d_tabulate 8192 (due_at font) (4096 + low_at k) 0 (omega arith) ∙ high_due font k h in
+    let low = get_or_tabulate 8192 (due_at font) (low_at k) 0 (omega arith) ∙ low_due font k h in
+    let high = get_or_tabulate 8192 (due_at font) (4096 + low_at k) 0 (omega arith) ∙ high_due font k h in
     omega (arith, low, high, font_row_law font e k)))
 
 -- it lacks no bit, so it is accepted
@@ -96,7 +96,7 @@ module _ (font : List ℕ) where
   pub image_accepted : answer_of (image_of font) 1116 ≡ accepted 0
   unfolding answer_of
   image_accepted =
-      let none = first_none 8192 (lacks_at (image_of font)) (λ j h. le-ltb (get_or (image_of font) j 0) (least_at j) (rw (get_d_tabulate 8192 (due_at font) j 0 h) (due_least j))) in
+      let none = first_none 8192 (lacks_at (image_of font)) (λ j h. le-ltb (get_or (image_of font) j 0) (least_at j) (rw (get_or_tabulate 8192 (due_at font) j 0 h) (due_least j))) in
       simp (eq-eqb _ _ (length_tabulate 8192 (due_at font)), none)
 
 -- two fonts never share an image
@@ -128,7 +128,7 @@ module _ (image : List ℕ) (room : ℕ) (e : answer_of image room ≡ accepted 
   module _ (bytes : (a : ℕ) → get_or image a 0 < 256) where
     row_here : (k : ℕ) → k < 1116 → get_or (font_of image) k 0 ≡ get_or image (low_at k) 0 + 256 * (get_or image (4096 + low_at k) 0 % 16)
     unfolding row_in
-    row_here k h = get_d_tabulate 1116 (row_in image) k 0 h
+    row_here k h = get_or_tabulate 1116 (row_in image) k 0 h
 
     due_again : (a : ℕ) → a < 8192 → due_at (font_of image) a ≡ get_or image a 0
     unfolding due_at half_at least_at

@@ -6,18 +6,18 @@ use lib.Dec.{eqb}
 use Rattle.laws.specs.Pick.{pick}
 use Rattle.laws.specs.Said.{Said}
 use Rattle.laws.proofs.Determined.{Determines, both_say, told_apart}
+use Rattle.std.specs.Prelude.{Result, Ok, Err}
 use Rattle.image.specs.Image.{said}
-use Rattle.image.specs.declared.Turned.{Turned}
-use Rattle.image.specs.declared.Turned.TheVariants.{Done, NotAFont}
+use Rattle.image.specs.declared.NotAFont.{NotAFont}
 use Rattle.image.specs.contracts.image_to_font as image_to_font
 
--- the case of which this is said
-abbrev meant : Said → Turned
-meant s = pick (eqb s.number 0) Done (NotAFont s.place)
+-- the outcome of which this is said
+abbrev meant : Said → Result (Unit {0}) NotAFont
+meant s = pick (eqb s.number 0) (Ok tt) (Err (record { 0 = s.place }))
 
-meant_said : (x : Turned) → meant (said x) ≡ x
-meant_said Done = refl
-meant_said (NotAFont place) = refl
+meant_said : (x : Result (Unit {0}) NotAFont) → meant (said x) ≡ x
+meant_said (Ok turned) = refl
+meant_said (Err refusal) = refl
 
 pub image_to_font_unique : Determines image_to_font.ended (λ w. image_to_font.clauses w.𝓛 w.𝓜.mem w.𝓡.run)
 image_to_font_unique w κs a g g' r r' ws ws' =

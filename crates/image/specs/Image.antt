@@ -2,13 +2,13 @@
 -- A font is a list of 62 times 18 rows of 12 bits, row l of cell c at place 18c + l. Its image has two halves of 4,096 bytes: a row's low
 -- 8 bits stand in the first, its high 4 in the second, in a byte whose four upper bits are set; the cells lie 32 bytes apart in each half.
 -- Assumes nothing.
-use Rattle.std.specs.Prelude.{ℕ, ◌+◌, ◌*◌, ◌/◌, ◌%◌, Bool, List, ltb, eqb, length, get_or}
+use Rattle.std.specs.Prelude.{ℕ, ◌+◌, ◌*◌, ◌/◌, ◌%◌, Bool, List, Result, ltb, eqb, length, get_or}
 use Rattle.laws.specs.Pick.{pick, both}
 use Rattle.laws.specs.Said.{Said, accepted, refused}
 use Rattle.font.specs.Font.{font_cells, rows_of_cell, font_rows, row_of}
 use Rattle.laws.specs.Lists.{tabulate, first_of}
-use Rattle.image.specs.declared.Turned.{Turned}
-use Rattle.image.specs.declared.Turned.TheVariants.{Done, NotAFont}
+use Rattle.answer.specs.Told.{said_of}
+use Rattle.image.specs.declared.NotAFont.{NotAFont}
 
 abbrev pub image_bytes : ℕ
 image_bytes = 8192
@@ -85,7 +85,12 @@ answer_of image room =
 unfoldable pub left_of : List ℕ → List ℕ → List ℕ
 left_of image font = pick (eqb (answer_of image (length font)).number 0) (font_of image) font
 
--- document 01's number and place for each case
-abbrev pub said : Turned → Said
-said Done = accepted 0
-said (NotAFont place) = refused 13 place
+-- document 01's number and place of a refusal, and what is said of each case
+abbrev pub number_of : NotAFont → ℕ
+number_of refusal = 13
+
+abbrev pub place_of : NotAFont → ℕ
+place_of refusal = refusal.0
+
+abbrev pub said : Result (Unit {0}) NotAFont → Said
+said = said_of (λ turned. 0) number_of place_of

@@ -1,43 +1,19 @@
--- The tests of the settings, what the tests of an accepted call show, and that no refusal has number 0.
+-- What the tests of an accepted call show, and that no refusal has number 0.
 -- Assumes nothing.
-use mathlib.Core.Path.{◌≡◌, refl, sym, ap, ◌∙◌}
-use mathlib.Core.Bool.{Bool, true, false, not}
-use mathlib.Core.List.{List}
-use Prim.Native.Nat.{ℕ, suc, ◌<◌, ◌≤◌}
-use native.Mathlib.Omega.{arith}
-use borrow.Author.Tests.{le-leb, lt-leb, leb-true, ltb-false, eqb-true, eqb-false, not-false}
-use lib.Dec.{leb, ltb, eqb}
-use lib.ListN.{length}
+use Rattle.std.proofs.Common.{◌≡◌, ℕ, suc, ◌≤◌, Bool, true, false, not, leb, ltb, eqb, List, length, Result, Ok, Err, refl, sym, ap, ◌∙◌, leb-true, eqb-true, arith}
+use Rattle.std.proofs.lemmas.Bool.{ltb-false, eqb-false, not-false}
 use Rattle.laws.specs.Pick.{pick}
 use Rattle.laws.specs.Said.{Said, accepted, refused}
-use Rattle.laws.proofs.Both.{both_parts, both_none}
 use Rattle.laws.specs.Within.{within, first_row_above}
+use Rattle.laws.proofs.Both.{both_parts}
 use Rattle.font.specs.Font.{font_rows, most_row}
+use Rattle.font.specs.declared.FontError.TheVariants.{Length, Row}
 use Rattle.units.specs.declared.Dots.{Dots}
 use Rattle.units.specs.declared.Lines.{Lines}
 use Rattle.judging.specs.declared.Settings.{Settings}
-use Rattle.judging.specs.declared.Painted.{Painted}
-use Rattle.judging.specs.declared.Painted.TheVariants.{Done, BadSetting, ReservedRatio, BadWords, FontLength, BadRow, OffScreen, NoRoom}
+use Rattle.judging.specs.declared.PaintError.{PaintError}
+use Rattle.judging.specs.declared.PaintError.TheVariants.{Setting, ReservedRatio, Words, Font, OffScreen, NoRoom}
 use Rattle.judging.specs.Judging.{word_count, in_range, all_are_words, on_screen, answer_of, said}
-
-module _ (s : Settings) where
-  pub bad_mode : 3 < s.mode → false ≡ in_range s
-  bad_mode h = simp (lt-leb s.mode 3 h)
-
-  pub bad_colour : 7 < s.colour → false ≡ in_range s
-  bad_colour h = simp (lt-leb s.colour 7 h, both_none)
-
-  pub bad_h : 63 < s.h → false ≡ in_range s
-  bad_h h = simp (lt-leb s.h 63 h, both_none)
-
-  pub bad_v : 63 < s.v → false ≡ in_range s
-  bad_v h = simp (lt-leb s.v 63 h, both_none)
-
-  pub bad_ratio : 3 < s.ratio → false ≡ in_range s
-  bad_ratio h = simp (lt-leb s.ratio 3 h, both_none)
-
-  pub last_test : s.mode ≤ 3 → s.colour ≤ 7 → s.h ≤ 63 → s.v ≤ 63 → s.ratio ≤ 3 → leb s.frequency 3 ≡ in_range s
-  last_test a b c d e = simp (le-leb s.mode 3 a, le-leb s.colour 7 b, le-leb s.h 63 c, le-leb s.v 63 d, le-leb s.ratio 3 e)
 
 -- what an accepted call's arguments are
 pub record Accepted (words font : List ℕ) (s : Settings) (width : Dots) (room : ℕ) : Type 0 where
@@ -82,21 +58,21 @@ accepted_by words font s line width room e =
       fits = ltb-false room width.0 roomy.0;
     }
 
--- the answer Done
-pub done_is : (r : Painted) (a : Said) → said r ≡ a → r ≡ Done → a ≡ accepted 0
-done_is r a e d = sym e ∙ ap said d
+pub accepted_ok : (words font : List ℕ) (s : Settings) (line : Lines) (width : Dots) (room : ℕ) (r : Result (Unit {0}) PaintError) → said r ≡ answer_of words font s line width room
+    → r ≡ Ok tt → Accepted words font s width room
+accepted_ok words font s line width room r e ok = accepted_by words font s line width room (sym e ∙ ap said ok)
 
-pub accepted_done : (words font : List ℕ) (s : Settings) (line : Lines) (width : Dots) (room : ℕ) (r : Painted) → said r ≡ answer_of words font s line width room → r ≡ Done
-    → Accepted words font s width room
-accepted_done words font s line width room r e d = accepted_by words font s line width room (done_is r _ e d)
+-- a refusal tells a number above 0
+pub refusal_told : (e : PaintError) → (said (Err e)).number ≡ 0 → ⊥
+refusal_told Setting g = omega arith
+refusal_told ReservedRatio g = omega arith
+refusal_told Words g = omega arith
+refusal_told (Font Length) g = omega arith
+refusal_told (Font (Row row)) g = omega arith
+refusal_told OffScreen g = omega arith
+refusal_told NoRoom g = omega arith
 
--- an answer that is not `Done` tells a number above 0
-pub not_done : (r : Painted) → (r ≡ Done → ⊥) → (said r).number ≡ 0 → ⊥
-not_done Done w e = w refl
-not_done BadSetting w e = omega arith
-not_done ReservedRatio w e = omega arith
-not_done BadWords w e = omega arith
-not_done FontLength w e = omega arith
-not_done (BadRow row) w e = omega arith
-not_done OffScreen w e = omega arith
-not_done NoRoom w e = omega arith
+-- an answer that is not `Ok` tells a number above 0
+pub not_done : (r : Result (Unit {0}) PaintError) → (r ≡ Ok tt → ⊥) → (said r).number ≡ 0 → ⊥
+not_done (Ok done) w g = w refl
+not_done (Err e) w g = refusal_told e g

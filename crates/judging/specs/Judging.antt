@@ -1,15 +1,18 @@
 -- What a paint call is refused for: document 01, 'Numbers for bad input', 1 to 6, and 18 by M-102, which has its place after 4.
 -- Assumes nothing.
-use Rattle.std.specs.Prelude.{ℕ, List, Bool, not, leb, ltb, eqb, length}
+use Rattle.std.specs.Prelude.{ℕ, List, Bool, not, leb, ltb, eqb, length, Result}
 use Rattle.laws.specs.Pick.{pick, both}
 use Rattle.laws.specs.Said.{Said, accepted, refused}
 use Rattle.laws.specs.Within.{within, first_row_above}
 use Rattle.font.specs.Font.{font_rows, most_row}
+use Rattle.answer.specs.Told.{said_of}
+use Rattle.font.specs.declared.FontError.{FontError}
+use Rattle.font.specs.Whole.{number_of as font_number_of, place_of as font_place_of}
 use Rattle.units.specs.declared.Dots.{Dots}
 use Rattle.units.specs.declared.Lines.{Lines}
 use Rattle.judging.specs.declared.Settings.{Settings}
-use Rattle.judging.specs.declared.Painted.{Painted}
-use Rattle.judging.specs.declared.Painted.TheVariants.{Done, BadSetting, ReservedRatio, BadWords, FontLength, BadRow, OffScreen, NoRoom}
+use Rattle.judging.specs.declared.PaintError.{PaintError}
+use Rattle.judging.specs.declared.PaintError.TheVariants.{Setting, ReservedRatio, Words, Font, OffScreen, NoRoom}
 
 -- the words of a screen, the largest word, line and width
 abbrev pub word_count : ℕ
@@ -72,13 +75,26 @@ answer_of words font s line width room =
     (refused 5 0)
     (pick (ltb room width.0) (refused 6 0) (accepted 0)))))))
 
+-- a font that is refused refuses the call
+abbrev pub of_font : FontError → PaintError
+of_font = Font
+
 -- the documents' number and place for each case
-abbrev pub said : Painted → Said
-said Done = accepted 0
-said BadSetting = refused 1 0
-said ReservedRatio = refused 2 0
-said BadWords = refused 3 0
-said FontLength = refused 4 0
-said (BadRow row) = refused 18 row
-said OffScreen = refused 5 0
-said NoRoom = refused 6 0
+abbrev pub number_of : PaintError → ℕ
+number_of Setting = 1
+number_of ReservedRatio = 2
+number_of Words = 3
+number_of (Font error) = font_number_of error
+number_of OffScreen = 5
+number_of NoRoom = 6
+
+abbrev pub place_of : PaintError → ℕ
+place_of (Font error) = font_place_of error
+place_of Setting = 0
+place_of ReservedRatio = 0
+place_of Words = 0
+place_of OffScreen = 0
+place_of NoRoom = 0
+
+abbrev pub said : Result (Unit {0}) PaintError → Said
+said = said_of (λ _. 0) number_of place_of

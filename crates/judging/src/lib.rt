@@ -2,11 +2,13 @@
 #![tactic(auto)]
 
 ghost use Rattle.std.specs.Prelude.{◌≡◌};
-ghost use Rattle.judging.specs.Judging.{answer_of, said, in_range};
+ghost use Rattle.judging.specs.Judging.{answer_of, said, in_range, number_of, place_of, of_font};
 
+use answer::Refusal;
+use font::FontError;
 use units::{Dots, Lines};
 
-// What the host sets. Numbers are wide, so that a value out of range is seen and refused.
+// What the host sets: wide numbers and no enums, as C hands over any number, and 1 refuses those out of range.
 #[repr(C)]
 #[derive(Clone, Copy)]
 pub struct Settings {
@@ -20,22 +22,51 @@ pub struct Settings {
 }
 
 #[derive(Clone, Copy)]
-pub enum Painted {
-    Done,
+pub enum PaintError {
     // A setting is outside its range.
-    BadSetting,
+    Setting,
     // Ratio 3.
     ReservedRatio,
     // Not 64 words, or one above 1023.
-    BadWords,
-    // The font has not 1,116 rows.
-    FontLength,
-    // The font's first row above 4095.
-    BadRow(u32),
+    Words,
+    // The rows are no font's.
+    Font(FontError),
     // The line is above 1023 or the width above 1024.
     OffScreen,
     // The output is shorter than the width.
     NoRoom,
+}
+
+impl From<FontError> for PaintError {
+    ghost from_gives = { λ error refusal. refusal ≡ of_font error };
+
+    fn from(error: FontError) -> PaintError {
+        PaintError::Font(error)
+    }
+}
+
+impl Refusal for PaintError {
+    ghost number_of = { number_of };
+
+    ghost place_of = { place_of };
+
+    fn number(&self) -> u32 {
+        match self {
+            PaintError::Setting => 1,
+            PaintError::ReservedRatio => 2,
+            PaintError::Words => 3,
+            PaintError::Font(error) => error.number(),
+            PaintError::OffScreen => 5,
+            PaintError::NoRoom => 6,
+        }
+    }
+
+    fn place(&self) -> u32 {
+        match self {
+            PaintError::Font(error) => error.place(),
+            _ => 0,
+        }
+    }
 }
 
 // The largest mode and colour, h or v, ratio and frequency; the largest ratio is reserved.
@@ -57,7 +88,20 @@ const MOST_LINE: usize = 1023;
 
 const MOST_WIDTH: usize = 1024;
 
-// The first number of the table that applies, or Done.
+impl Settings {
+    fn in_range(self) -> bool
+        ensures { result ≡ in_range self }
+    {
+        self.mode <= MOST_MODE
+            && self.colour <= MOST_COLOUR
+            && self.h <= MOST_PLACE
+            && self.v <= MOST_PLACE
+            && self.ratio <= MOST_RATIO
+            && self.frequency <= MOST_FREQUENCY
+    }
+}
+
+// Refuses by the first number of the table that applies.
 pub fn judged(
     words: &[u16],
     font: &[u16],
@@ -65,57 +109,24 @@ pub fn judged(
     line: Lines,
     width: Dots,
     room: usize,
-) -> Painted
+) -> Result<(), PaintError>
     ensures { said result ≡ answer_of words.now font.now settings line width room }
 {
-    if !in_range(settings) {
-        return Painted::BadSetting;
+    if !settings.in_range() {
+        return Err(PaintError::Setting);
     }
     if settings.ratio == MOST_RATIO {
-        return Painted::ReservedRatio;
+        return Err(PaintError::ReservedRatio);
     }
-    if words.len() != WORDS {
-        return Painted::BadWords;
+    if words.len() != WORDS || !font::all_within(words, MOST_WORD) {
+        return Err(PaintError::Words);
     }
-    if !font::all_within(words, MOST_WORD) {
-        return Painted::BadWords;
-    }
-    if font.len() != font::FONT_ROWS {
-        return Painted::FontLength;
-    }
-    if !font::all_within(font, font::MOST_ROW) {
-        let row = font::first_above(font, font::MOST_ROW) as u32;
-        return Painted::BadRow(row);
-    }
-    if MOST_LINE < line.0 {
-        return Painted::OffScreen;
-    }
-    if MOST_WIDTH < width.0 {
-        return Painted::OffScreen;
+    font::whole(font)?;
+    if MOST_LINE < line.0 || MOST_WIDTH < width.0 {
+        return Err(PaintError::OffScreen);
     }
     if room < width.0 {
-        return Painted::NoRoom;
+        return Err(PaintError::NoRoom);
     }
-    Painted::Done
-}
-
-fn in_range(s: Settings) -> bool
-    ensures { result ≡ in_range s }
-{
-    if MOST_MODE < s.mode {
-        return false;
-    }
-    if MOST_COLOUR < s.colour {
-        return false;
-    }
-    if MOST_PLACE < s.h {
-        return false;
-    }
-    if MOST_PLACE < s.v {
-        return false;
-    }
-    if MOST_RATIO < s.ratio {
-        return false;
-    }
-    s.frequency <= MOST_FREQUENCY
+    Ok(())
 }

@@ -19,6 +19,11 @@ module _ {A : Type 0} (has : A → Bool) where
       go true rest e = absurd (true≢false e)
       go false rest e = rest e
 
+  -- the first of the list does not have it
+  pub first_past : (shows : A → ℕ) (c : A) (cs : List A) (other : ℕ) → has c ≡ false → first_shown has shows (c ∷ cs) other ≡ first_shown has shows cs other
+  unfolding first_shown
+  first_past shows c cs other away = rw away
+
   pub holders_of_none : (cs : List A) → any_of has cs ≡ false → holders has cs ≡ 0
   unfolding holders any_of
   holders_of_none [] e = refl

@@ -19,16 +19,16 @@ unfolding tabulate
 length_tabulate zero f = refl
 length_tabulate (suc n) f = ap suc (length_tabulate n (λ k. f (suc k)))
 
-pub get_d_tabulate : {A : Type 0} (n : ℕ) (f : ℕ → A) (k : ℕ) (d : A) → k < n → get_or (tabulate n f) k d ≡ f k
+pub get_or_tabulate : {A : Type 0} (n : ℕ) (f : ℕ → A) (k : ℕ) (d : A) → k < n → get_or (tabulate n f) k d ≡ f k
 unfolding tabulate
-get_d_tabulate zero f k d h = absurd (not-suc-le-zero h)
-get_d_tabulate (suc n) f zero d h = refl
-get_d_tabulate (suc n) f (suc k) d h = get_d_tabulate n (λ k. f (suc k)) k d (le_of_suc-le-suc h)
+get_or_tabulate zero f k d h = absurd (not-suc-le-zero h)
+get_or_tabulate (suc n) f zero d h = refl
+get_or_tabulate (suc n) f (suc k) d h = get_or_tabulate n (λ k. f (suc k)) k d (le_of_suc-le-suc h)
 
 -- a list is given by a rule where each of its elements is
 pub is_tabulate : {A : Type 0} (d : A) (n : ℕ) (f : ℕ → A) (l : List A) → length l ≡ n → ((k : ℕ) → k < n → get_or l k d ≡ f k) → l ≡ tabulate n f
 is_tabulate d n f l e h =
-    ext_get_or d l (tabulate n f) (e ∙ sym (length_tabulate n f)) (λ i g. h i (omega arith) ∙ sym (get_d_tabulate n f i d (omega arith)))
+    ext_get_or d l (tabulate n f) (e ∙ sym (length_tabulate n f)) (λ i g. h i (omega arith) ∙ sym (get_or_tabulate n f i d (omega arith)))
 
 pub tabulate_same : {A : Type 0} (n : ℕ) (f g : ℕ → A) → ((k : ℕ) → k < n → f k ≡ g k) → tabulate n f ≡ tabulate n g
 unfolding tabulate
@@ -122,7 +122,7 @@ module _ (f : ℕ → ℕ) where
     where
       go : (k : ℕ) → k < length l → Dec (k < n) → get_or l k 0 ≡ get_or (tabulate n f ++ drop n l₀) k 0
       go k m (yes d) =
-          g.done k (omega arith) ∙ sym (get_or-append (tabulate n f) (drop n l₀) 0 k (omega (arith, length_tabulate n f)) ∙ get_d_tabulate n f k 0 d)
+          g.done k (omega arith) ∙ sym (get_or-append (tabulate n f) (drop n l₀) 0 k (omega (arith, length_tabulate n f)) ∙ get_or_tabulate n f k 0 d)
       go k m (no d) =
           let e : k ≡ length (tabulate n f) + (k - n) = omega (arith, length_tabulate n f) in
           let e' : n + (k - n) ≡ k = omega arith in

@@ -41,15 +41,15 @@ use denote.Triple.Walked.{says, Stays, stay_ref, stay_none, gave_slice, walk_of,
 use denote.Exit.{yes}
 use denote.Enum.Laws as EL
 use Rattle.dac.specs.declared.Dac.{Dac}
-use Rattle.dac.specs.declared.Played.{Played}
-use Rattle.dac.specs.declared.Outcome.{Outcome}
+use Rattle.lent.specs.declared.Played.{Played}
+use Rattle.lent.specs.declared.Outcome.{Outcome}
 use Rattle.answer.specs.declared.Answer.{Answer}
 use Rattle.dac.specs.contracts.Dac as T
 use Rattle.dac.proofs.Dac.TheLaws as T'
-use Rattle.dac.specs.contracts.Outcome as S
-use Rattle.dac.proofs.Outcome.TheLaws as S'
-use Rattle.dac.specs.contracts.Played as E
-use Rattle.dac.proofs.Played.TheLaws as E'
+use Rattle.lent.specs.contracts.Outcome as S
+use Rattle.lent.proofs.Outcome.TheLaws as S'
+use Rattle.lent.specs.contracts.Played as E
+use Rattle.lent.proofs.Played.TheLaws as E'
 use Rattle.answer.specs.contracts.Answer as P
 use Rattle.answer.proofs.Answer.TheLaws as P'
 

@@ -1,6 +1,6 @@
 -- No second answer meets a promise of this crate.
 -- Assumes nothing.
-use mathlib.Core.Path.{refl, sym, ◌∙◌}
+use Rattle.std.proofs.Common.{refl, sym, ◌∙◌}
 use Rattle.laws.proofs.Determined.{Determines, both_say}
 use Rattle.modes.specs.contracts.ground as ground
 use Rattle.modes.specs.contracts.lit as lit

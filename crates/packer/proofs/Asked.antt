@@ -24,3 +24,6 @@ taken glyphs e =
     let parts = both_parts (all_whole glyphs) (within most_row glyphs) e in
     let shape = whole_parts glyphs parts.0 in
     record { whole = shape.0; few = shape.1; small = parts.1 }
+
+pub few_glyphs : (glyphs : List ℕ) → are_glyphs glyphs ≡ true → length glyphs / 18 ≤ 256
+few_glyphs glyphs e = (taken glyphs e).few

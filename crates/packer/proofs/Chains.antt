@@ -1,12 +1,14 @@
 -- The chains of patterns. A chain has the patterns of one spot, from the last one met to the first, and glyphs with the same rows have one spot; so where
 -- no pattern of its chain has a glyph's rows, none has.
 -- Assumes nothing.
-use Rattle.std.proofs.Common.{◌≡◌, ℕ, zero, suc, ◌+◌, ◌<◌, ◌≤◌, Bool, true, false, eqb, List, length, get_or, set, sym, refl, ap, ◌∙◌, not-suc-le-zero, add-one, arith, length-set, get_or-set_other, get_or-set_same, eq-eqb, ne_eqb, eqb-true}
+use Rattle.std.proofs.Common.{◌≡◌, ℕ, zero, suc, ◌+◌, ◌<◌, ◌≤◌, Bool, true, false, eqb, List, [], None, replicate, length, get_or, set, sym, refl, ap, ◌∙◌, not-suc-le-zero, add-one, arith, get_or-set_other, get_or-set_same, eq-eqb, ne_eqb, eqb-true}
 use mathlib.Core.Bool.{false≢true}
 use native.Mathlib.Decide.{dec_lt, ℕ_discrete}
 use Rattle.laws.specs.Pick.{pick}
-use Rattle.packer.specs.Steps.{same_rows, spots, spot_at, last_of, first_row, last_at, Walk, Found}
-use Rattle.packer.proofs.Words.{spot_same}
+use lib.ListN.{get_or-replicate}
+use Rattle.font.specs.Font.{font_cells}
+use Rattle.packer.specs.Steps.{same_rows, spots, spot_of, last_of, pattern, last_at, Kept, Walk, Found, ToAdd}
+use Rattle.packer.proofs.Words.{spot_same, spot_below}
 
 module _ (test : ℕ → Bool) where
   pub last_most : (n : ℕ) → last_of n test ≤ n
@@ -43,78 +45,115 @@ module _ (test : ℕ → Bool) where
   unfolding last_of
   last_more n = rw (add-one n)
 
-module _ (glyphs firsts nexts : List ℕ) (at used : ℕ) where
+-- the last one of those that pass, where the tests agree as far as that
+last_same : (n : ℕ) (test test' : ℕ → Bool) → ((k : ℕ) → k < n → test k ≡ test' k) → last_of n test ≡ last_of n test'
+unfolding last_of
+last_same zero test test' e = refl
+last_same (suc n) test test' e = rw (e n (omega arith), last_same n test test' (λ k l. e k (omega arith)))
+
+module _ (drawn : List (List ℕ)) (firsts nexts heads : List ℕ) (used : ℕ) (kept : Kept drawn firsts nexts heads used) (glyph : List ℕ) where
   -- a pattern of another spot has other rows
-  other_spot : (c : ℕ) → eqb (spot_at glyphs (first_row glyphs c)) (spot_at glyphs at) ≡ false → same_rows glyphs (first_row glyphs c) at ≡ false
-  other_spot c e = go (same_rows glyphs (first_row glyphs c) at) refl
+  other_spot : (c : ℕ) → eqb (spot_of (pattern drawn firsts c)) (spot_of glyph) ≡ false → same_rows (pattern drawn firsts c) glyph ≡ false
+  other_spot c e = go (same_rows (pattern drawn firsts c) glyph) refl
     where
-      go : (t : Bool) → same_rows glyphs (first_row glyphs c) at ≡ t → t ≡ false
-      go true same = absurd (false≢true (sym e ∙ eq-eqb _ _ (spot_same glyphs (first_row glyphs c) at same)))
+      go : (t : Bool) → same_rows (pattern drawn firsts c) glyph ≡ t → t ≡ false
+      go true same = absurd (false≢true (sym e ∙ eq-eqb _ _ (spot_same (pattern drawn firsts c) glyph same)))
       go false same = refl
 
-  pub walk_below : (next : ℕ) → Walk glyphs firsts nexts at used next → next ≤ used
+  -- a walk begins at the head of the glyph's spot
+  pub walk_from : (spot head : ℕ) → spot ≡ spot_of glyph → head ≡ get_or heads spot 0 → Walk drawn firsts used glyph head
+  walk_from spot head is_spot is_head =
+      record {
+        bound = used;
+        within_used = omega arith;
+        stands = is_head ∙ kept.last spot (omega (arith, is_spot, spot_below glyph)) ∙ ap (last_at drawn firsts used) is_spot;
+        passed = λ c a b. absurd (omega arith);
+      }
+
+  pub walk_below : (next : ℕ) → Walk drawn firsts used glyph next → next ≤ used
   walk_below next w =
-      let m = last_most (λ c. eqb (spot_at glyphs (first_row glyphs c)) (spot_at glyphs at)) w.bound in
+      let m = last_most (λ c. eqb (spot_of (pattern drawn firsts c)) (spot_of glyph)) w.bound in
       omega (arith, m, w.stands, w.within_used)
 
-  same_here : (t : Bool) (next c : ℕ) → c < used → Walk glyphs firsts nexts at used next → same_rows glyphs (get_or firsts c 0) at ≡ t → same_rows glyphs (first_row glyphs c) at ≡ t
-  same_here t next c l w e = ap (λ (x : ℕ). same_rows glyphs x at) (sym (w.first c l)) ∙ e
-
-  -- the walk stands at a pattern with the glyph's rows
-  pub walk_found : (next c : ℕ) → next ≡ c + 1 → same_rows glyphs (get_or firsts c 0) at ≡ true → Walk glyphs firsts nexts at used next → Found glyphs at used next
-  walk_found next c e same w =
-      let le = walk_below next w in
-      record {
-        none = λ z. absurd (omega arith);
-        some = λ d f. let here : d ≡ c = omega arith in rw here (omega arith, same_here true next c (omega arith) w same);
-      }
-
-  -- it goes on to an earlier one
-  pub walk_on : (next c : ℕ) → next ≡ c + 1 → same_rows glyphs (get_or firsts c 0) at ≡ false → Walk glyphs firsts nexts at used next → Walk glyphs firsts nexts at used (get_or nexts c 0)
+  -- it goes on to an earlier pattern
+  pub walk_on : (next c : ℕ) → next ≡ c + 1 → same_rows (pattern drawn firsts c) glyph ≡ false → Walk drawn firsts used glyph next
+      → (get_or nexts c 0 ≤ c) × Walk drawn firsts used glyph (get_or nexts c 0)
   walk_on next c e unlike w =
-      let low : c < used = (let le = walk_below next w in omega arith) in
-      record {
-        first = w.first;
-        next_is = w.next_is;
-        bound = c;
-        within_used = omega arith;
-        stands = w.next_is c low ∙ ap (last_at glyphs c) at_spot;
-        passed = λ d a b. go d a b (ℕ_discrete d c) (dec_lt d w.bound) (same_here false next c low w unlike);
-      }
+      let low : c < used = (let le = walk_below next w in omega arith) in (
+        omega (arith, kept.next c low, last_most (λ d. eqb (spot_of (pattern drawn firsts d)) (spot_of (pattern drawn firsts c))) c),
+        record {
+          bound = c;
+          within_used = omega arith;
+          stands = kept.next c low ∙ ap (last_at drawn firsts c) at_spot;
+          passed = λ d a b. go d a b (ℕ_discrete d c) (dec_lt d w.bound);
+        },
+      )
     where
-      at_spot : spot_at glyphs (first_row glyphs c) ≡ spot_at glyphs at
-      at_spot = eqb-true _ _ (last_at_law (λ c. eqb (spot_at glyphs (first_row glyphs c)) (spot_at glyphs at)) w.bound c (sym w.stands ∙ e))
+      at_spot : spot_of (pattern drawn firsts c) ≡ spot_of glyph
+      at_spot = eqb-true _ _ (last_at_law (λ c. eqb (spot_of (pattern drawn firsts c)) (spot_of glyph)) w.bound c (sym w.stands ∙ e))
 
-      go : (d : ℕ) → c ≤ d → d < used → Dec (d ≡ c) → Dec (d < w.bound) → same_rows glyphs (first_row glyphs c) at ≡ false → same_rows glyphs (first_row glyphs d) at ≡ false
-      go d a b (yes h) l here = rw h here
-      go d a b (no h) (yes l) here =
-          other_spot d (last_after (λ c. eqb (spot_at glyphs (first_row glyphs c)) (spot_at glyphs at)) w.bound d (omega (arith, w.stands)) l)
-      go d a b (no h) (no l) here = w.passed d (omega arith) b
+      go : (d : ℕ) → c ≤ d → d < used → Dec (d ≡ c) → Dec (d < w.bound) → same_rows (pattern drawn firsts d) glyph ≡ false
+      go d a b (yes h) l = rw h unlike
+      go d a b (no h) (yes l) =
+          other_spot d (last_after (λ c. eqb (spot_of (pattern drawn firsts c)) (spot_of glyph)) w.bound d (omega (arith, w.stands)) l)
+      go d a b (no h) (no l) = w.passed d (omega arith) b
 
   -- the chain's end: no pattern has the glyph's rows
-  pub walk_end : (next : ℕ) → next ≡ 0 → Walk glyphs firsts nexts at used next → Found glyphs at used 0
-  walk_end next e w = record { none = λ z c l. go c l (dec_lt c w.bound); some = λ c f. absurd (omega arith) }
+  pub walk_end : (next : ℕ) → next ≡ 0 → Walk drawn firsts used glyph next → Found drawn firsts used glyph None
+  walk_end next e w c l = go (dec_lt c w.bound)
     where
-      go : (c : ℕ) → c < used → Dec (c < w.bound) → same_rows glyphs (first_row glyphs c) at ≡ false
-      go c l (yes b) =
-          other_spot c (last_after (λ c. eqb (spot_at glyphs (first_row glyphs c)) (spot_at glyphs at)) w.bound c (omega (arith, w.stands)) b)
-      go c l (no b) = w.passed c (omega arith) l
+      go : Dec (c < w.bound) → same_rows (pattern drawn firsts c) glyph ≡ false
+      go (yes b) =
+          other_spot c (last_after (λ c. eqb (spot_of (pattern drawn firsts c)) (spot_of glyph)) w.bound c (omega (arith, w.stands)) b)
+      go (no b) = w.passed c (omega arith) l
 
--- the heads of all chains, with the first `used` patterns in them
-pub record Heads (glyphs : List ℕ) (used : ℕ) (heads : List ℕ) : Type 0 where
-  pub size : length heads ≡ spots
-  pub last : (spot : ℕ) → spot < spots → get_or heads spot 0 ≡ last_at glyphs used spot
+-- no pattern is kept yet
+pub kept_none : (drawn : List (List ℕ)) (used : ℕ) → used ≡ 0 → Kept drawn (replicate 62 0) (replicate 62 0) (replicate 256 0) used
+unfolding last_of
+kept_none drawn used none = rw none record { few = omega arith; there = λ c l. absurd (omega arith); next = λ c l. absurd (omega arith); last = λ spot l. get_or-replicate 256 spot 0 0 l }
 
 -- one pattern more: it is the last of its spot
-pub heads_more : (glyphs : List ℕ) (used spot : ℕ) (heads : List ℕ) → spot < spots → spot_at glyphs (first_row glyphs used) ≡ spot
-    → Heads glyphs used heads → Heads glyphs (used + 1) (set heads spot (used + 1))
-heads_more glyphs used spot heads l e h = record { size = length-set heads spot (used + 1) ∙ h.size; last = λ s m. go s m (ℕ_discrete s spot) }
-  where
-    go : (s : ℕ) → s < spots → Dec (s ≡ spot) → get_or (set heads spot (used + 1)) s 0 ≡ last_at glyphs (used + 1) s
-    go s m (yes d) =
-        let here : eqb (spot_at glyphs (first_row glyphs used)) s ≡ true = eq-eqb _ _ (e ∙ sym d) in
-        ap (λ (i : ℕ). get_or (set heads spot (used + 1)) i 0) d ∙ get_or-set_same heads spot (used + 1) 0 (omega (arith, h.size))
-        ∙ sym (last_more (λ c. eqb (spot_at glyphs (first_row glyphs c)) s) used ∙ rw here)
-    go s m (no d) =
-        let other : eqb (spot_at glyphs (first_row glyphs used)) s ≡ false = ne_eqb _ _ (λ q. d (sym q ∙ e)) in
-        get_or-set_other heads spot s (used + 1) 0 d ∙ h.last s m ∙ sym (last_more (λ c. eqb (spot_at glyphs (first_row glyphs c)) s) used ∙ rw other)
+module _ (drawn : List (List ℕ)) (firsts nexts heads : List ℕ) (used g spot : ℕ) (kept : Kept drawn firsts nexts heads used) (to : ToAdd drawn used g spot)
+    (wide : length firsts ≡ font_cells) (long : length nexts ≡ font_cells) (all : length heads ≡ spots) where
+  before : (c : ℕ) → c < used → pattern drawn (set firsts used g) c ≡ pattern drawn firsts c
+  before c l = ap (λ (i : ℕ). get_or drawn i []) (get_or-set_other firsts used c g 0 (omega arith))
+
+  here : pattern drawn (set firsts used g) used ≡ get_or drawn g []
+  here = ap (λ (i : ℕ). get_or drawn i []) (get_or-set_same firsts used g 0 (omega (arith, wide, to.few)))
+
+  lasts : (n s : ℕ) → n ≤ used → last_at drawn (set firsts used g) n s ≡ last_at drawn firsts n s
+  lasts n s le = last_same n _ _ (λ k l. ap (λ (rows : List ℕ). eqb (spot_of rows) s) (before k (omega arith)))
+
+  in_spots : spot < spots
+  in_spots = omega (arith, to.at, spot_below (get_or drawn g []))
+
+  pub kept_more : Kept drawn (set firsts used g) (set nexts used (get_or heads spot 0)) (set heads spot (used + 1)) (used + 1)
+  kept_more =
+      record {
+        few = omega (arith, to.few);
+        there = λ c l. go_there c (ℕ_discrete c used) l;
+        next = λ c l. go_next c (ℕ_discrete c used) l;
+        last = λ s l. go_last s (ℕ_discrete s spot) l;
+      }
+    where
+      go_there : (c : ℕ) → Dec (c ≡ used) → c < used + 1 → get_or (set firsts used g) c 0 < length drawn
+      go_there c (yes d) l = rw (d, get_or-set_same firsts used g 0 (omega (arith, wide, to.few))) to.there
+      go_there c (no d) l = rw (get_or-set_other firsts used c g 0 d) (kept.there c (omega arith))
+
+      go_next : (c : ℕ) → Dec (c ≡ used) → c < used + 1 → get_or (set nexts used (get_or heads spot 0)) c 0 ≡ last_at drawn (set firsts used g) c (spot_of (pattern drawn (set firsts used g) c))
+      go_next c (yes d) l =
+          rw d
+          (get_or-set_same nexts used (get_or heads spot 0) 0 (omega (arith, long, to.few)) ∙ kept.last spot in_spots
+          ∙ ap (last_at drawn firsts used) (to.at ∙ ap spot_of (sym here)) ∙ sym (lasts used _ (omega arith)))
+      go_next c (no d) l =
+          get_or-set_other nexts used c (get_or heads spot 0) 0 d ∙ kept.next c (omega arith) ∙ ap (λ (rows : List ℕ). last_at drawn firsts c (spot_of rows)) (sym (before c (omega arith)))
+          ∙ sym (lasts c _ (omega arith))
+
+      go_last : (s : ℕ) → Dec (s ≡ spot) → s < spots → get_or (set heads spot (used + 1)) s 0 ≡ last_at drawn (set firsts used g) (used + 1) s
+      go_last s (yes d) l =
+          let at : eqb (spot_of (pattern drawn (set firsts used g) used)) s ≡ true = eq-eqb _ _ (ap spot_of here ∙ sym to.at ∙ sym d) in
+          ap (λ (i : ℕ). get_or (set heads spot (used + 1)) i 0) d ∙ get_or-set_same heads spot (used + 1) 0 (omega (arith, all, in_spots))
+          ∙ sym (last_more (λ c. eqb (spot_of (pattern drawn (set firsts used g) c)) s) used ∙ rw at)
+      go_last s (no d) l =
+          let other : eqb (spot_of (pattern drawn (set firsts used g) used)) s ≡ false = ne_eqb _ _ (λ q. d (sym q ∙ ap spot_of here ∙ sym to.at)) in
+          get_or-set_other heads spot s (used + 1) 0 d ∙ kept.last s l ∙ sym (lasts used s (omega arith)) ∙ sym (last_more (λ c. eqb (spot_of (pattern drawn (set firsts used g) c)) s) used ∙ rw other)

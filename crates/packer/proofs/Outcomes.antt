@@ -1,32 +1,23 @@
 -- What a call answers and leaves, by the tests that decide it.
 -- Assumes nothing.
-use Rattle.std.proofs.Common.{◌≡◌, ℕ, ◌-◌, ◌<◌, ◌≤◌, true, false, eqb, ltb, leb, List, ◌++◌, length, get_or, drop, sym, ap, ◌∙◌, subst, arith, le-ltb, lt-ltb, ne_eqb, le-leb}
+use Rattle.std.proofs.Common.{◌≡◌, ℕ, ◌<◌, ◌≤◌, true, false, eqb, ltb, leb, List, Err, ◌++◌, length, take, drop, sym, ap, ◌∙◌, arith, length-take, le-ltb, lt-ltb, ne_eqb, le-leb}
+use Rattle.std.proofs.lemmas.List.{get_or-take}
 use borrow.Author.Tests.{lt-leb}
 use Rattle.laws.specs.Said.{Said, accepted, refused}
-use Rattle.laws.specs.Lists.{tabulate}
 use Rattle.laws.specs.Within.{within}
 use Rattle.laws.proofs.Both.{none_left, none_right}
-use Rattle.laws.proofs.Lists.{tabulate_same}
+use Rattle.laws.proofs.Lists.{is_tabulate}
 use Rattle.font.specs.Font.{font_cells, font_rows, most_row}
-use Rattle.packer.specs.declared.Numbering.{Numbering}
-use Rattle.packer.specs.declared.Numbering.TheVariants.{All, TooMany, TooWide}
-use Rattle.packer.specs.Glyphs.{glyphs_in, patterns_in, cell_for, packed_font}
-use Rattle.packer.specs.Packing.{all_whole, are_glyphs, room_for, answer_of, packs, font_left, cells_left}
+use Rattle.packer.specs.declared.PackError.{PackError}
+use Rattle.packer.specs.declared.PackError.TheVariants.{NotGlyphs, TooManyPatterns, NoRoom}
+use Rattle.packer.specs.Glyphs.{most_glyphs, glyphs_in, patterns_in, cell_for, packed_font}
+use Rattle.packer.specs.Packing.{all_whole, are_glyphs, room_for, answer_of, said, packs, font_left, cells_left}
 use Rattle.packer.specs.Steps.{AllNumbered, Numbered}
+use Rattle.packer.proofs.Asked.{taken}
 
 pub not_whole : (glyphs : List ℕ) → all_whole glyphs ≡ false → are_glyphs glyphs ≡ false
 unfolding are_glyphs
 not_whole glyphs none = none_left (all_whole glyphs) (within most_row glyphs) none
-
--- what came of numbering, by its case
-pub numbered_all : (glyphs firsts numbers : List ℕ) (used : ℕ) (r : Numbering) → r ≡ All used → Numbered glyphs firsts numbers r → AllNumbered glyphs firsts numbers used
-numbered_all glyphs firsts numbers used r e n = subst (Numbered glyphs firsts numbers) e n
-
-pub numbered_many : (glyphs firsts numbers : List ℕ) (r : Numbering) → r ≡ TooMany → Numbered glyphs firsts numbers r → (are_glyphs glyphs ≡ true) × (font_cells < patterns_in glyphs)
-numbered_many glyphs firsts numbers r e n = subst (Numbered glyphs firsts numbers) e n
-
-pub numbered_wide : (glyphs firsts numbers : List ℕ) (r : Numbering) → r ≡ TooWide → Numbered glyphs firsts numbers r → are_glyphs glyphs ≡ false
-numbered_wide glyphs firsts numbers r e n = subst (Numbered glyphs firsts numbers) e n
 
 module _ (glyphs font cells : List ℕ) where
   -- the numbers
@@ -69,6 +60,17 @@ module _ (glyphs font cells : List ℕ) where
       let refuses : packs glyphs font cells ≡ false = ap (λ (s : Said). eqb s.number 0) (sym told) ∙ ne_eqb k 0 (omega arith) in
       (simp refuses, simp refuses)
 
+  -- what comes of patterns that are not numbered
+  pub refuses : (drawn : List (List ℕ)) (firsts : List ℕ) (used : ℕ) (numbers : List ℕ) (e : PackError) → Numbered glyphs drawn firsts used numbers (Err e)
+      → (said (Err e) ≡ answer_of glyphs (length font) (length cells)) × (font ≡ font_left glyphs font cells) × (cells ≡ cells_left glyphs font cells)
+  refuses drawn firsts used numbers NotGlyphs none =
+      let left = leaves 16 (omega arith) (not_glyphs none) in
+      (not_glyphs none, left.0, left.1)
+  refuses drawn firsts used numbers TooManyPatterns many =
+      let left = leaves 17 (omega arith) (too_many many.0 many.1) in
+      (too_many many.0 many.1, left.0, left.1)
+  refuses drawn firsts used numbers NoRoom none = elim none [ ]
+
   -- an accepted one leaves font and cells
   pub leaves_font : accepted (patterns_in glyphs) ≡ answer_of glyphs (length font) (length cells) → packed_font glyphs ++ drop font_rows font ≡ font_left glyphs font cells
   unfolding font_left
@@ -76,12 +78,13 @@ module _ (glyphs font cells : List ℕ) where
       let are : packs glyphs font cells ≡ true = ap (λ (s : Said). eqb s.number 0) (sym told) in
       simp are
 
-  pub leaves_cells : (count used : ℕ) (firsts numbers : List ℕ) → AllNumbered glyphs firsts numbers used → count ≡ glyphs_in glyphs
+  pub leaves_cells : (drawn : List (List ℕ)) (firsts numbers : List ℕ) (used : ℕ) → AllNumbered glyphs drawn firsts used numbers → length numbers ≡ most_glyphs
       → accepted (patterns_in glyphs) ≡ answer_of glyphs (length font) (length cells)
-      → tabulate count (λ k. get_or numbers k 0 - 1) ++ drop count cells ≡ cells_left glyphs font cells
+      → take (glyphs_in glyphs) numbers ++ drop (glyphs_in glyphs) cells ≡ cells_left glyphs font cells
   unfolding cells_left
-  leaves_cells count used firsts numbers n all told =
+  leaves_cells drawn firsts numbers used n places told =
       let are : packs glyphs font cells ≡ true = ap (λ (s : Said). eqb s.number 0) (sym told) in
-      let each : (g : ℕ) → g < glyphs_in glyphs → get_or numbers g 0 - 1 ≡ cell_for glyphs g = λ g l. omega (arith, n.cell g l) in
-      ap (λ (n : ℕ). tabulate n (λ k. get_or numbers k 0 - 1) ++ drop n cells) all
-      ∙ ap (λ (l : List ℕ). l ++ drop (glyphs_in glyphs) cells) (tabulate_same (glyphs_in glyphs) (λ k. get_or numbers k 0 - 1) (cell_for glyphs) each) ∙ simp are
+      let few = (taken glyphs n.are).few in
+      let size : length (take (glyphs_in glyphs) numbers) ≡ glyphs_in glyphs = simp length-take (omega (arith, places, few)) in
+      let each = is_tabulate 0 (glyphs_in glyphs) (cell_for glyphs) (take (glyphs_in glyphs) numbers) size (λ k l. get_or-take (glyphs_in glyphs) numbers k 0 l ∙ n.cell k l) in
+      ap (λ (l : List ℕ). l ++ drop (glyphs_in glyphs) cells) each ∙ simp are

@@ -1,6 +1,6 @@
 -- The bits of several rows together. In numbers of four parts the parts' bits come together part by part, and they are at most 4095 exactly if each row's are.
 -- Assumes nothing.
-use Rattle.std.proofs.Common.{◌≡◌, ℕ, ◌+◌, ◌*◌, ◌/◌, ◌%◌, ◌<◌, ◌≤◌, true, leb, List, get_or, sym, refl, ap, ◌∙◌, add-zero, add_comm, arith, le-leb, leb-true}
+use Rattle.std.proofs.Common.{◌≡◌, ℕ, ◌+◌, ◌*◌, ◌/◌, ◌%◌, ◌<◌, ◌≤◌, true, leb, List, get_or, sym, ap, ◌∙◌, add_comm, arith, le-leb, leb-true}
 use native.Mathlib.Decide.{dec_lt}
 use lib.Bits.{bit_or, or_lt, or_block}
 use Rattle.laws.specs.Lists.{upto}
@@ -8,7 +8,7 @@ use Rattle.laws.proofs.Both.{both_parts, same_tests}
 use Rattle.laws.proofs.Scan.{or_above}
 use Rattle.laws.proofs.Tests.{upto_at, upto_all}
 use Rattle.font.specs.Font.{rows_of_cell, most_row}
-use Rattle.packer.specs.Steps.{two_at, four_at, narrow_at, all_parts_narrow}
+use Rattle.packer.specs.Steps.{two_at, four_at, narrow_rows, all_parts_narrow}
 
 -- a number of four parts
 abbrev parts : ℕ → ℕ → ℕ → ℕ → ℕ
@@ -67,9 +67,11 @@ parts_narrow a b c d low =
     rw (one, two, three, four)
 
 -- the parts of four rows, and of two
-four_is : (rows : List ℕ) (at : ℕ) → four_at rows at ≡ parts (get_or rows at 0) (get_or rows (at + 1) 0) (get_or rows (at + 2) 0) (get_or rows (at + 2 + 1) 0)
+four_is : (rows : List ℕ) (at : ℕ) → four_at rows at ≡ parts (get_or rows at 0) (get_or rows (at + 1) 0) (get_or rows (at + 2) 0) (get_or rows (at + 3) 0)
 unfolding four_at two_at
-four_is rows at = refl
+four_is rows at =
+    let last : at + 2 + 1 ≡ at + 3 = omega arith in
+    rw last
 
 two_is : (rows : List ℕ) (at : ℕ) → two_at rows at ≡ parts (get_or rows at 0) (get_or rows (at + 1) 0) 0 0
 unfolding two_at
@@ -132,79 +134,50 @@ is_narrow p e = narrow_parts p.one p.two p.three p.four p.one_fits p.two_fits p.
 narrow_is : {n : ℕ} (p : Parts n) → Narrow p → all_parts_narrow n ≡ true
 narrow_is p low = ap all_parts_narrow p.is ∙ parts_narrow p.one p.two p.three p.four low
 
-module _ (glyphs : List ℕ) (fits : (k : ℕ) → get_or glyphs k 0 < 65536) (at : ℕ) where
-  four_placed : (k : ℕ) → four_at glyphs (at + k) ≡ parts (get_or glyphs (at + k) 0) (get_or glyphs (at + (k + 1)) 0) (get_or glyphs (at + (k + 2)) 0) (get_or glyphs (at + (k + 3)) 0)
-  four_placed k = four_is glyphs (at + k) ∙ rw (place 1, place 2, last)
-    where
-      place : (i : ℕ) → at + k + i ≡ at + (k + i)
-      place i = omega arith
-
-      last : at + (k + 2) + 1 ≡ at + (k + 3)
-      last = omega arith
-
-  two_placed : two_at glyphs (at + 16) ≡ parts (get_or glyphs (at + 16) 0) (get_or glyphs (at + 17) 0) 0 0
-  two_placed = two_is glyphs (at + 16) ∙ rw place
-    where
-      place : at + 16 + 1 ≡ at + 17
-      place = omega arith
-
-  abbrev four_parts : (k : ℕ) → Parts (four_at glyphs (at + k))
+module _ (glyph : List ℕ) (fits : (k : ℕ) → get_or glyph k 0 < 65536) where
+  abbrev four_parts : (k : ℕ) → Parts (four_at glyph k)
   four_parts k =
       record {
-        one = get_or glyphs (at + k) 0;
-        two = get_or glyphs (at + (k + 1)) 0;
-        three = get_or glyphs (at + (k + 2)) 0;
-        four = get_or glyphs (at + (k + 3)) 0;
-        one_fits = fits (at + k);
-        two_fits = fits (at + (k + 1));
-        three_fits = fits (at + (k + 2));
-        four_fits = fits (at + (k + 3));
-        is = four_placed k;
+        one = get_or glyph k 0;
+        two = get_or glyph (k + 1) 0;
+        three = get_or glyph (k + 2) 0;
+        four = get_or glyph (k + 3) 0;
+        one_fits = fits k;
+        two_fits = fits (k + 1);
+        three_fits = fits (k + 2);
+        four_fits = fits (k + 3);
+        is = four_is glyph k;
       }
 
-  abbrev first_parts : Parts (four_at glyphs at)
-  first_parts =
-      record {
-        one = (four_parts 0).one;
-        two = (four_parts 0).two;
-        three = (four_parts 0).three;
-        four = (four_parts 0).four;
-        one_fits = (four_parts 0).one_fits;
-        two_fits = (four_parts 0).two_fits;
-        three_fits = (four_parts 0).three_fits;
-        four_fits = (four_parts 0).four_fits;
-        is = ap (four_at glyphs) (sym (add-zero at)) ∙ four_placed 0;
-      }
-
-  abbrev last_parts : Parts (two_at glyphs (at + 16))
+  abbrev last_parts : Parts (two_at glyph 16)
   last_parts =
       record {
-        one = get_or glyphs (at + 16) 0;
-        two = get_or glyphs (at + 17) 0;
+        one = get_or glyph 16 0;
+        two = get_or glyph 17 0;
         three = 0;
         four = 0;
-        one_fits = fits (at + 16);
-        two_fits = fits (at + 17);
+        one_fits = fits 16;
+        two_fits = fits 17;
         three_fits = omega arith;
         four_fits = omega arith;
-        is = two_placed;
+        is = two_is glyph 16;
       }
 
-  abbrev all_parts : Parts (bit_or (bit_or (bit_or (four_at glyphs at) (four_at glyphs (at + 4))) (bit_or (four_at glyphs (at + 8)) (four_at glyphs (at + 12)))) (two_at glyphs (at + 16)))
-  all_parts = or_of (or_of (or_of first_parts (four_parts 4)) (or_of (four_parts 8) (four_parts 12))) last_parts
+  abbrev all_parts : Parts (bit_or (bit_or (bit_or (four_at glyph 0) (four_at glyph 4)) (bit_or (four_at glyph 8) (four_at glyph 12))) (two_at glyph 16))
+  all_parts = or_of (or_of (or_of (four_parts 0) (four_parts 4)) (or_of (four_parts 8) (four_parts 12))) last_parts
 
   -- each row is narrow
   abbrev Each : Type 0
-  Each = (l : ℕ) → l < rows_of_cell → get_or glyphs (at + l) 0 ≤ most_row
+  Each = (l : ℕ) → l < rows_of_cell → get_or glyph l 0 ≤ most_row
 
   -- four rows, by their parts
-  four_each : (k : ℕ) → Narrow (four_parts k) → (l : ℕ) → k ≤ l → l < k + 4 → get_or glyphs (at + l) 0 ≤ most_row
+  four_each : (k : ℕ) → Narrow (four_parts k) → (l : ℕ) → k ≤ l → l < k + 4 → get_or glyph l 0 ≤ most_row
   four_each k low l from to = go (dec_lt l (k + 1)) (dec_lt l (k + 2)) (dec_lt l (k + 3))
     where
-      here : (n : ℕ) → l ≡ n → get_or glyphs (at + n) 0 ≤ most_row → get_or glyphs (at + l) 0 ≤ most_row
+      here : (n : ℕ) → l ≡ n → get_or glyph n 0 ≤ most_row → get_or glyph l 0 ≤ most_row
       here n e h = rw e h
 
-      go : Dec (l < k + 1) → Dec (l < k + 2) → Dec (l < k + 3) → get_or glyphs (at + l) 0 ≤ most_row
+      go : Dec (l < k + 1) → Dec (l < k + 2) → Dec (l < k + 3) → get_or glyph l 0 ≤ most_row
       go (yes a) b c = here k (omega arith) low.first
       go (no a) (yes b) c = here (k + 1) (omega arith) low.second
       go (no a) (no b) (yes c) = here (k + 2) (omega arith) low.third
@@ -213,44 +186,44 @@ module _ (glyphs : List ℕ) (fits : (k : ℕ) → get_or glyphs k 0 < 65536) (a
   each_four : Each → (k : ℕ) → k ≤ 14 → Narrow (four_parts k)
   each_four each k le = record { first = each k (omega arith); second = each (k + 1) (omega arith); third = each (k + 2) (omega arith); fourth = each (k + 3) (omega arith) }
 
-  pub narrow_all : all_parts_narrow (bit_or (bit_or (bit_or (four_at glyphs at) (four_at glyphs (at + 4))) (bit_or (four_at glyphs (at + 8)) (four_at glyphs (at + 12)))) (two_at glyphs (at + 16)))
-      ≡ narrow_at glyphs at
-  unfolding narrow_at
+  pub narrow_all : all_parts_narrow (bit_or (bit_or (bit_or (four_at glyph 0) (four_at glyph 4)) (bit_or (four_at glyph 8) (four_at glyph 12))) (two_at glyph 16))
+      ≡ narrow_rows glyph
+  unfolding narrow_rows
   narrow_all = same_tests _ _ there back
     where
-      there : all_parts_narrow (bit_or (bit_or (bit_or (four_at glyphs at) (four_at glyphs (at + 4))) (bit_or (four_at glyphs (at + 8)) (four_at glyphs (at + 12)))) (two_at glyphs (at + 16))) ≡ true
-          → upto rows_of_cell (λ l. leb (get_or glyphs (at + l) 0) most_row) ≡ true
-      there e = upto_all 18 (λ l. leb (get_or glyphs (at + l) 0) most_row) (λ l h. le-leb _ _ (each l h (dec_lt l 4) (dec_lt l 8) (dec_lt l 12) (dec_lt l 16)))
+      there : all_parts_narrow (bit_or (bit_or (bit_or (four_at glyph 0) (four_at glyph 4)) (bit_or (four_at glyph 8) (four_at glyph 12))) (two_at glyph 16)) ≡ true
+          → upto rows_of_cell (λ l. leb (get_or glyph l 0) most_row) ≡ true
+      there e = upto_all 18 (λ l. leb (get_or glyph l 0) most_row) (λ l h. le-leb _ _ (each l h (dec_lt l 4) (dec_lt l 8) (dec_lt l 12) (dec_lt l 16)))
         where
-          words : Narrow (or_of (or_of first_parts (four_parts 4)) (or_of (four_parts 8) (four_parts 12))) × Narrow last_parts
-          words = narrow_or (or_of (or_of first_parts (four_parts 4)) (or_of (four_parts 8) (four_parts 12))) last_parts (is_narrow all_parts e)
+          words : Narrow (or_of (or_of (four_parts 0) (four_parts 4)) (or_of (four_parts 8) (four_parts 12))) × Narrow last_parts
+          words = narrow_or (or_of (or_of (four_parts 0) (four_parts 4)) (or_of (four_parts 8) (four_parts 12))) last_parts (is_narrow all_parts e)
 
-          halves : Narrow (or_of first_parts (four_parts 4)) × Narrow (or_of (four_parts 8) (four_parts 12))
-          halves = narrow_or (or_of first_parts (four_parts 4)) (or_of (four_parts 8) (four_parts 12)) words.0
+          halves : Narrow (or_of (four_parts 0) (four_parts 4)) × Narrow (or_of (four_parts 8) (four_parts 12))
+          halves = narrow_or (or_of (four_parts 0) (four_parts 4)) (or_of (four_parts 8) (four_parts 12)) words.0
 
-          upper : Narrow first_parts × Narrow (four_parts 4)
-          upper = narrow_or first_parts (four_parts 4) halves.0
+          upper : Narrow (four_parts 0) × Narrow (four_parts 4)
+          upper = narrow_or (four_parts 0) (four_parts 4) halves.0
 
           lower : Narrow (four_parts 8) × Narrow (four_parts 12)
           lower = narrow_or (four_parts 8) (four_parts 12) halves.1
 
-          each : (l : ℕ) → l < 18 → Dec (l < 4) → Dec (l < 8) → Dec (l < 12) → Dec (l < 16) → get_or glyphs (at + l) 0 ≤ most_row
+          each : (l : ℕ) → l < 18 → Dec (l < 4) → Dec (l < 8) → Dec (l < 12) → Dec (l < 16) → get_or glyph l 0 ≤ most_row
           each l h (yes a) b c d = four_each 0 upper.0 l (omega arith) (omega arith)
           each l h (no a) (yes b) c d = four_each 4 upper.1 l (omega arith) (omega arith)
           each l h (no a) (no b) (yes c) d = four_each 8 lower.0 l (omega arith) (omega arith)
           each l h (no a) (no b) (no c) (yes d) = four_each 12 lower.1 l (omega arith) (omega arith)
           each l h (no a) (no b) (no c) (no d) = last_one (dec_lt l 17)
             where
-              last_one : Dec (l < 17) → get_or glyphs (at + l) 0 ≤ most_row
+              last_one : Dec (l < 17) → get_or glyph l 0 ≤ most_row
               last_one (yes e) = let at16 : l ≡ 16 = omega arith in rw at16 words.1.first
               last_one (no e) = let at17 : l ≡ 17 = omega arith in rw at17 words.1.second
 
-      back : upto rows_of_cell (λ l. leb (get_or glyphs (at + l) 0) most_row) ≡ true
-          → all_parts_narrow (bit_or (bit_or (bit_or (four_at glyphs at) (four_at glyphs (at + 4))) (bit_or (four_at glyphs (at + 8)) (four_at glyphs (at + 12)))) (two_at glyphs (at + 16))) ≡ true
-      back e = narrow_is all_parts (or_narrow (or_of (or_of first_parts (four_parts 4)) (or_of (four_parts 8) (four_parts 12))) last_parts
-          (or_narrow (or_of first_parts (four_parts 4)) (or_of (four_parts 8) (four_parts 12)) (or_narrow first_parts (four_parts 4) (each_four each 0 (omega arith)) (each_four each 4 (omega arith)))
+      back : upto rows_of_cell (λ l. leb (get_or glyph l 0) most_row) ≡ true
+          → all_parts_narrow (bit_or (bit_or (bit_or (four_at glyph 0) (four_at glyph 4)) (bit_or (four_at glyph 8) (four_at glyph 12))) (two_at glyph 16)) ≡ true
+      back e = narrow_is all_parts (or_narrow (or_of (or_of (four_parts 0) (four_parts 4)) (or_of (four_parts 8) (four_parts 12))) last_parts
+          (or_narrow (or_of (four_parts 0) (four_parts 4)) (or_of (four_parts 8) (four_parts 12)) (or_narrow (four_parts 0) (four_parts 4) (each_four each 0 (omega arith)) (each_four each 4 (omega arith)))
           (or_narrow (four_parts 8) (four_parts 12) (each_four each 8 (omega arith)) (each_four each 12 (omega arith))))
           (record { first = each 16 (omega arith); second = each 17 (omega arith); third = omega arith; fourth = omega arith }))
         where
-          each : (l : ℕ) → l < 18 → get_or glyphs (at + l) 0 ≤ most_row
-          each l h = leb-true _ _ (upto_at 18 (λ l. leb (get_or glyphs (at + l) 0) most_row) e l h)
+          each : (l : ℕ) → l < 18 → get_or glyph l 0 ≤ most_row
+          each l h = leb-true _ _ (upto_at 18 (λ l. leb (get_or glyph l 0) most_row) e l h)

@@ -1,12 +1,13 @@
 -- What a call of the packer answers and leaves: document 02, M-100, with its numbers 16, 17 and 6.
 -- Assumes nothing.
-use Rattle.std.specs.Prelude.{ℕ, ◌%◌, Bool, not, List, ◌++◌, length, drop, ◌==◌, nat_le, nat_lt}
+use Rattle.std.specs.Prelude.{ℕ, ◌%◌, Bool, not, List, ◌++◌, length, drop, Result, ◌==◌, nat_le, nat_lt}
 use Rattle.laws.specs.Pick.{pick, both}
 use Rattle.laws.specs.Said.{Said, accepted, refused}
 use Rattle.laws.specs.Within.{within}
 use Rattle.font.specs.Font.{font_cells, rows_of_cell, font_rows, most_row}
-use Rattle.packer.specs.declared.Packed.{Packed}
-use Rattle.packer.specs.declared.Packed.TheVariants.{Done, NotGlyphs, TooManyPatterns, NoRoom}
+use Rattle.answer.specs.Told.{said_of}
+use Rattle.packer.specs.declared.PackError.{PackError}
+use Rattle.packer.specs.declared.PackError.TheVariants.{NotGlyphs, TooManyPatterns, NoRoom}
 use Rattle.packer.specs.Glyphs.{most_glyphs, glyphs_in, patterns_in, packed_font, packed_cells}
 
 -- whole glyphs, 256 at most
@@ -30,12 +31,15 @@ answer_of glyphs rows places =
     (refused 17 0)
     (pick (not (room_for glyphs rows places)) (refused 6 0) (accepted (patterns_in glyphs))))
 
--- the number for each case
-abbrev pub said : Packed → Said
-said (Done cells) = accepted cells
-said NotGlyphs = refused 16 0
-said TooManyPatterns = refused 17 0
-said NoRoom = refused 6 0
+-- the number for each case of refusal, which has no place
+abbrev pub number_of : PackError → ℕ
+number_of NotGlyphs = 16
+number_of TooManyPatterns = 17
+number_of NoRoom = 6
+
+-- what is said of an outcome: how many cells, or the number
+abbrev pub said : Result ℕ PackError → Said
+said = said_of (λ n. n) number_of (λ _. 0)
 
 -- whether the call is accepted, with these lent
 abbrev pub packs : List ℕ → List ℕ → List ℕ → Bool

@@ -12,7 +12,7 @@ use lib.Dec.{eqb}
 use Rattle.laws.specs.Pick.{pick, both, either}
 use Rattle.laws.specs.Lines.{first_shown, any_of}
 use Rattle.laws.proofs.Both.{both_none, fails_unless}
-use Rattle.laws.proofs.Holders.{first_of_none, first_alike_shown}
+use Rattle.laws.proofs.Holders.{first_of_none, first_past, first_alike_shown}
 use Rattle.laws.proofs.Placing.{span_in, cell_has_law, cell_in_row, cell_above}
 use Rattle.laws.proofs.Scan.{split}
 use Rattle.font.specs.Font.{rows_of_cell, cell_columns}
@@ -103,16 +103,11 @@ next_after [] b c after s = s.0.0
 next_after (x ∷ before) b c after s = next_after before b c after s.1
 
 module _ (dots : Drawn) (v : View) (start k : ℕ) where
-  -- a cell that does not have the dot shows nothing on it
-  passed_by : (c : Cell) (cs : List Cell) (shaded : Bool) → has v k c ≡ false → shaded_dot dots v start (c ∷ cs) k shaded ≡ shaded_dot dots v start cs k shaded
-  unfolding first_shown
-  passed_by c cs shaded away = rw away
-
   -- a cell that has nothing to do with the dot
   skip : (c : Cell) (cs : List Cell) → has v k c ≡ false → throws dots v k c ≡ false → dot_at dots v start (c ∷ cs) k ≡ dot_at dots v start cs k
   unfolding dot_at any_of
   skip c cs away dark =
-      passed_by c cs (any_of (throws dots v k) (c ∷ cs)) away
+      first_past (has v k) (cell_dot dots v (any_of (throws dots v k) (c ∷ cs)) k) c cs _ away
       ∙ ap (λ (t : Bool). shaded_dot dots v start cs k (either t (any_of (throws dots v k) cs))) dark
 
   -- none of these has to do with it

@@ -1,2 +1,2 @@
-// A theorem alone: the painted line that document 01 works through.
+// Theorems alone: the painted line that document 01 works through, and what M-101 claims of pictures.
 #![tactic(auto)]

@@ -1,10 +1,7 @@
 -- Every call leaves a port that is its own kept form: cutting it again changes nothing.
 -- Assumes nothing.
-use Prim.Native.Nat.{ℕ, zero, suc, ◌+◌}
-use mathlib.Core.Path.{◌≡◌, refl, ap, ◌∙◌}
-use mathlib.Core.List.{List, [], ◌∷◌, map}
-use native.Mathlib.Omega.{arith}
-use lib.ListN.{set}
+use Rattle.std.proofs.Common.{◌≡◌, ℕ, ◌+◌, List, [], ◌∷◌, map, set, refl, ◌∙◌, arith}
+use Rattle.std.proofs.lemmas.List.{map-set}
 use Rattle.port.specs.declared.Port.{Port}
 use Rattle.port.specs.Port.{kept_address, kept_attribute, kept_code, kept_word, word_of, kept_of, fresh_port, address_written, attribute_written, character_written}
 
@@ -14,11 +11,6 @@ words_again (w ∷ l) = λ i. word_again i ∷ words_again l i
   where
     word_again : kept_word (kept_word w) ≡ kept_word w
     word_again = omega arith
-
-map_set : (f : ℕ → ℕ) (l : List ℕ) (i w : ℕ) → map f (set l i w) ≡ set (map f l) i (f w)
-map_set f [] i w = refl
-map_set f (a ∷ l) zero w = refl
-map_set f (a ∷ l) (suc i) w = ap (λ (t : List ℕ). f a ∷ t) (map_set f l i w)
 
 address_again : (n : ℕ) → kept_address (kept_address n) ≡ kept_address n
 address_again n = omega arith
@@ -58,5 +50,5 @@ character_written_kept p byte = λ i. record {
   where
     words : map kept_word (character_written p byte).words ≡ (character_written p byte).words
     words =
-        map_set kept_word (map kept_word p.words) (kept_address p.address) (word_of (kept_code byte) (kept_attribute p.attribute))
+        map-set kept_word (map kept_word p.words) (kept_address p.address) (word_of (kept_code byte) (kept_attribute p.attribute))
         ∙ (λ i. set (words_again p.words i) (kept_address p.address) (stored_again byte p.attribute i))

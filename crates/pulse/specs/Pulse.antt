@@ -2,11 +2,13 @@
 -- A channel keeps so many bits of the byte written to it; the number kept is how many clocks, from the start of the channel's
 -- period, its output is high. A clock is named by its place t in the period.
 -- Assumes nothing.
-use Rattle.std.specs.Prelude.{ℕ, ◌%◌, ◌^◌, Bool, leb, ltb}
+use Rattle.std.specs.Prelude.{ℕ, ◌%◌, ◌^◌, Bool, leb, ltb, Result}
 use Rattle.laws.specs.Pick.{pick}
 use Rattle.laws.specs.Said.{Said, accepted, refused}
+use Rattle.answer.specs.Told.{said_of}
 use Rattle.pulse.specs.declared.Level.{Level}
-use Rattle.pulse.specs.declared.Level.TheVariants.{Low, High, NoSuchClock}
+use Rattle.pulse.specs.declared.Level.TheVariants.{Low, High}
+use Rattle.pulse.specs.declared.NoSuchClock.{NoSuchClock}
 
 -- There are channels 0 to 7, of which 0 to 3 are the wider ones.
 abbrev pub last_channel : ℕ
@@ -37,7 +39,14 @@ answer_of channel byte t =
     pick (ltb last_channel channel) (refused 15 0) (pick (leb (period_of channel) t) (refused 15 0) (accepted (level_of channel byte t)))
 
 -- document 01's number, place and level for each case
-abbrev pub said : Level → Said
-said Low = accepted 0
-said High = accepted 1
-said NoSuchClock = refused 15 0
+abbrev pub value_of : Level → ℕ
+value_of = elim [ Low ↦ 0 | High ↦ 1 ]
+
+abbrev pub number_of : NoSuchClock → ℕ
+number_of _ = 15
+
+abbrev pub place_of : NoSuchClock → ℕ
+place_of _ = 0
+
+abbrev pub said : Result Level NoSuchClock → Said
+said = said_of value_of number_of place_of

@@ -2,46 +2,66 @@
 #![tactic(auto)]
 
 ghost use Rattle.std.specs.Prelude.{◌≡◌};
-ghost use Rattle.pulse.specs.Pulse.{answer_of, said, period_of, kept_of};
+ghost use Rattle.pulse.specs.Pulse.{answer_of, said, value_of, number_of, place_of, period_of};
+
+use answer::{Refusal, Value};
 
 #[derive(Clone, Copy)]
 pub enum Level {
     Low,
     High,
-    // The channel is above 7, or t is not inside its period.
-    NoSuchClock,
+}
+
+impl Value for Level {
+    ghost value_of = { value_of };
+
+    fn value(self) -> u32 {
+        match self {
+            Level::Low => 0,
+            Level::High => 1,
+        }
+    }
+}
+
+// The channel is above 7, or t is not inside its period.
+#[derive(Clone, Copy)]
+pub struct NoSuchClock;
+
+impl Refusal for NoSuchClock {
+    ghost number_of = { number_of };
+
+    ghost place_of = { place_of };
+
+    fn number(&self) -> u32 {
+        15
+    }
+
+    fn place(&self) -> u32 {
+        0
+    }
 }
 
 // The level of a channel at clock t of its period, after byte was written to it.
-pub fn level_at(channel: u32, byte: u8, t: u32) -> Level
+#[tactic(auto, using(crate::proofs::Bits::kept_by_period), unfolding(crate::specs::Pulse::answer_of))]
+pub fn level_at(channel: u32, byte: u8, t: u32) -> Result<Level, NoSuchClock>
     ensures { said result ≡ answer_of channel byte t }
 {
-    if 7 < channel {
-        return Level::NoSuchClock;
+    let period = period(channel);
+    if channel > 7 || t >= period {
+        return Err(NoSuchClock);
     }
-    if period(channel) <= t {
-        return Level::NoSuchClock;
+    // a channel keeps the bits of the byte that count within its period
+    let kept = byte as u32 % period;
+    if t < kept {
+        Ok(Level::High)
+    } else {
+        Ok(Level::Low)
     }
-    if t < kept(channel, byte) {
-        return Level::High;
-    }
-    Level::Low
 }
 
+#[tactic(auto, unfolding(crate::specs::Pulse::period_of))]
 fn period(channel: u32) -> u32
     ensures { result ≡ period_of channel }
 {
-    if channel <= 3 {
-        return 128;
-    }
-    64
-}
-
-fn kept(channel: u32, byte: u8) -> u32
-    ensures { result ≡ kept_of channel byte }
-{
-    if channel <= 3 {
-        return (byte % 128) as u32;
-    }
-    (byte % 64) as u32
+    if channel <= 3 { 128 } else { 64 }
 }

@@ -14,7 +14,7 @@ use Rattle.laws.specs.Lists.{tabulate, count_of, upto}
 use Rattle.laws.specs.Pick.{pick}
 use Rattle.laws.specs.Placing.{cell_has}
 use Rattle.laws.proofs.Counts.{count_most, count_before, count_weaker, count_apart}
-use Rattle.laws.proofs.Lists.{length_tabulate, get_d_tabulate}
+use Rattle.laws.proofs.Lists.{length_tabulate, get_or_tabulate}
 use Rattle.laws.proofs.Tests.{upto_at}
 use Rattle.font.specs.Font.{font_cells, rows_of_cell, cell_columns, font_rows, most_row, is_font, row_of, bit_set, font_dot}
 use Rattle.font.proofs.Each.{within_each, font_tests}
@@ -63,14 +63,14 @@ module _ (most : ℕ) (fits : most < count) where
   how_many = omega (arith, rows)
 
   each_row : (k : ℕ) → k < length drawings → get_or drawings k 0 ≤ most_row
-  each_row k l = omega (arith, get_d_tabulate (rows_of_cell * count) (λ (i : ℕ). number (i / rows_of_cell)) k 0 (omega (arith, rows)))
+  each_row k l = omega (arith, get_or_tabulate (rows_of_cell * count) (λ (i : ℕ). number (i / rows_of_cell)) k 0 (omega (arith, rows)))
 
   are_glyphs_law : are_glyphs drawings ≡ true
   unfolding are_glyphs all_whole
   are_glyphs_law = rw (rows, within_each most_row drawings each_row)
 
   row_is : (g l : ℕ) → g < count → l < rows_of_cell → row_of drawings g l ≡ number g
-  row_is g l at row = get_d_tabulate (rows_of_cell * count) (λ (i : ℕ). number (i / rows_of_cell)) (rows_of_cell * g + l) 0 (omega arith) ∙ omega arith
+  row_is g l at row = get_or_tabulate (rows_of_cell * count) (λ (i : ℕ). number (i / rows_of_cell)) (rows_of_cell * g + l) 0 (omega arith) ∙ omega arith
 
   alike : (g h : ℕ) → g < count → h < count → number g ≡ number h → same_pattern drawings g h ≡ true
   alike g h at there e =

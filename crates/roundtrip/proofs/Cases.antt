@@ -11,7 +11,7 @@ use lib.Seq.{get_or_at}
 use Rattle.laws.specs.Said.{Said, accepted}
 use Rattle.laws.specs.Lists.{tabulate, first_of}
 use Rattle.laws.specs.Sums.{sum_all}
-use Rattle.laws.proofs.Lists.{length_tabulate, get_d_tabulate}
+use Rattle.laws.proofs.Lists.{length_tabulate, get_or_tabulate}
 use Rattle.font.specs.Font.{is_font}
 use Rattle.image.specs.Image.{image_of}
 use Rattle.image.specs.Image as turning
@@ -102,7 +102,7 @@ module _ (image : List ℕ) where
   small_line : (n : ℕ) → n < 512 → nth (lines (text_of image)) n ≡ nth (lines small) n
   small_line n h =
       text_line image n h
-      ∙ sym (ap (λ (ls : List (List ℕ)). get_or ls n []) small_lines ∙ get_or-append (tabulate 512 line) (last_line 102 ∷ []) [] n (omega (arith, length_tabulate 512 line)) ∙ get_d_tabulate 512 line n [] h)
+      ∙ sym (ap (λ (ls : List (List ℕ)). get_or ls n []) small_lines ∙ get_or-append (tabulate 512 line) (last_line 102 ∷ []) [] n (omega (arith, length_tabulate 512 line)) ∙ get_or_tabulate 512 line n [] h)
 
   small_last : nth (lines small) 512 ≡ last_line 102
   small_last = ap (λ (ls : List (List ℕ)). get_or ls 512 []) small_lines ∙ get_or_at (tabulate 512 line) (last_line 102) [] [] 512 (length_tabulate 512 line)

@@ -16,7 +16,7 @@ use Rattle.laws.specs.Pick.{pick}
 use Rattle.laws.specs.Lists.{tabulate}
 use Rattle.laws.specs.Sums.{sum_all}
 use Rattle.laws.proofs.Both.{both_parts}
-use Rattle.laws.proofs.Lists.{length_tabulate, get_d_tabulate, is_tabulate, tabulate_same, tabulate_more}
+use Rattle.laws.proofs.Lists.{length_tabulate, get_or_tabulate, is_tabulate, tabulate_same, tabulate_more}
 use Rattle.laws.proofs.Sums.{sum_last}
 use Rattle.ihex.specs.Digits.{among, digit, byte_at}
 use Rattle.ihex.specs.Lines.{lines, onto, LF}
@@ -143,7 +143,7 @@ module _ (n : ℕ) (line : List ℕ) (form : IsDataLine n line) where
     front = length (bytes_in image n) ∷ 16 * n / 256 ∷ 16 * n % 256 ∷ 0 ∷ bytes_in image n
 
     at : (i : ℕ) → i < 21 → get_or (spelled line) i 0 ≡ byte i
-    at i h = get_d_tabulate 21 (λ i. byte_at line (1 + 2 * i)) i 0 h
+    at i h = get_or_tabulate 21 (λ i. byte_at line (1 + 2 * i)) i 0 h
 
     bytes_size : length (bytes_in image n) ≡ 16
     bytes_size = length_tabulate 16 (λ i. get_or image (16 * n + i) 0)
@@ -158,7 +158,7 @@ module _ (n : ℕ) (line : List ℕ) (form : IsDataLine n line) where
         each (suc (suc (suc zero))) h = sym form.typed ∙ at 3 (omega arith)
         each (suc (suc (suc (suc k)))) h =
             let place : 9 + 2 * k ≡ 1 + 2 * suc (suc (suc (suc k))) = omega arith in
-            get_d_tabulate 16 (λ i. get_or image (16 * n + i) 0) k 0 (omega arith) ∙ held k (omega arith) ∙ ap (byte_at line) place
+            get_or_tabulate 16 (λ i. get_or image (16 * n + i) 0) k 0 (omega arith) ∙ held k (omega arith) ∙ ap (byte_at line) place
 
     last_is : byte 20 ≡ checksum (sum_of front)
     last_is =
@@ -193,7 +193,7 @@ module _ (text : List ℕ) (form : HasWritersForm text) where
   rule_at n i h g =
       let line : (16 * n + i) / 16 ≡ n = omega arith in
       let place : (16 * n + i) % 16 ≡ i = omega arith in
-      get_d_tabulate 8192 rule (16 * n + i) 0 (omega arith) ∙ ap (λ m. byte_at (nth (lines text) m) (9 + 2 * ((16 * n + i) % 16))) line ∙ ap (λ m. byte_at (nth (lines text) n) (9 + 2 * m)) place
+      get_or_tabulate 8192 rule (16 * n + i) 0 (omega arith) ∙ ap (λ m. byte_at (nth (lines text) m) (9 + 2 * ((16 * n + i) % 16))) line ∙ ap (λ m. byte_at (nth (lines text) n) (9 + 2 * m)) place
 
   line_is : (n : ℕ) → n < 512 → nth (lines text) n ≡ record_text (record_in (tabulate 8192 rule) n)
   line_is n h =
@@ -232,7 +232,7 @@ pub text_line : (image : List ℕ) (n : ℕ) → n < 512 → nth (lines (text_of
 text_line image n h =
     let line : ℕ → List ℕ = λ n. record_text (record_in image n) in
     ap (λ (ls : List (List ℕ)). get_or ls n []) (text_lines image)
-    ∙ get_or-append (tabulate 512 line) (record_text end_record ∷ []) [] n (omega (arith, length_tabulate 512 line)) ∙ get_d_tabulate 512 line n [] h
+    ∙ get_or-append (tabulate 512 line) (record_text end_record ∷ []) [] n (omega (arith, length_tabulate 512 line)) ∙ get_or_tabulate 512 line n [] h
 
 pub text_last : (image : List ℕ) → nth (lines (text_of image)) 512 ≡ line_of_end
 text_last image =

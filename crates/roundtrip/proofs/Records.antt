@@ -11,7 +11,7 @@ use lib.ListN.{length, get_or, take, length-append, get_or-append}
 use lib.Seq.{take-append-le, get_or_at}
 use Rattle.laws.specs.Said.{accepted}
 use Rattle.laws.specs.Lists.{tabulate, first_of}
-use Rattle.laws.proofs.Lists.{length_tabulate, get_d_tabulate, is_tabulate, tabulate_cut, first_is, first_none}
+use Rattle.laws.proofs.Lists.{length_tabulate, get_or_tabulate, is_tabulate, tabulate_cut, first_is, first_none}
 use Rattle.laws.specs.Sums.{sum_all}
 use Rattle.laws.proofs.Sums.{sum_last}
 use Rattle.laws.proofs.Placing.{span_in, span_after}
@@ -112,7 +112,7 @@ module _ (image : List ℕ) (small : Small image) where
       let at : 16 * n + (a - 16 * n) ≡ a = omega arith in
       rw place
       (get_or-append bytes _ 0 (a - 16 * n) (omega (arith, length_tabulate 16 (λ i. get_or image (16 * n + i) 0)))
-      ∙ get_d_tabulate 16 (λ i. get_or image (16 * n + i) 0) (a - 16 * n) 0 (omega arith) ∙ ap (λ k. get_or image k 0) at)
+      ∙ get_or_tabulate 16 (λ i. get_or image (16 * n + i) 0) (a - 16 * n) 0 (omega arith) ∙ ap (λ k. get_or image k 0) at)
 
   rs_length : length (records_of image) ≡ 513
   rs_length = length-append (tabulate 512 (record_in image)) (end_record ∷ []) ∙ ap (λ n. n + 1) (length_tabulate 512 (record_in image))
@@ -120,7 +120,7 @@ module _ (image : List ℕ) (small : Small image) where
   nth_data : (k : ℕ) → k < 512 → nth (records_of image) k ≡ record_in image k
   nth_data k h =
       get_or-append (tabulate 512 (record_in image)) (end_record ∷ []) [] k (omega (arith, length_tabulate 512 (record_in image)))
-      ∙ get_d_tabulate 512 (record_in image) k [] h
+      ∙ get_or_tabulate 512 (record_in image) k [] h
 
   nth_end : nth (records_of image) 512 ≡ end_record
   nth_end = get_or_at (tabulate 512 (record_in image)) end_record [] [] 512 (length_tabulate 512 (record_in image))

@@ -10,7 +10,7 @@ use borrow.Author.Tests.{lt-ltb, le-ltb, eq-eqb}
 use lib.Dec.{ltb}
 use lib.ListN.{length, get_or}
 use Rattle.laws.specs.Pick.{pick}
-use Rattle.laws.proofs.Lists.{length_tabulate, get_d_tabulate}
+use Rattle.laws.proofs.Lists.{length_tabulate, get_or_tabulate}
 use Rattle.font.specs.Font.{font_cells, rows_of_cell, font_rows, most_row, is_font, row_of, bit_set}
 use Rattle.font.proofs.Each.{within_at, within_each}
 use Rattle.packer.specs.Glyphs.{glyphs_in, patterns_before, patterns_in, cell_for, first_in, packed_row, packed_font}
@@ -26,7 +26,7 @@ module _ (glyphs : List ℕ) where
   font_row_law c l a b =
       let cell : (18 * c + l) / 18 ≡ c = omega arith in
       let row : (18 * c + l) % 18 ≡ l = omega arith in
-      get_d_tabulate font_rows (λ i. packed_row glyphs (i / rows_of_cell) (i % rows_of_cell)) (18 * c + l) 0 (omega arith) ∙ rw (cell, row)
+      get_or_tabulate font_rows (λ i. packed_row glyphs (i / rows_of_cell) (i % rows_of_cell)) (18 * c + l) 0 (omega arith) ∙ rw (cell, row)
 
   pub row_first : (c l : ℕ) → c < patterns_in glyphs → packed_row glyphs c l ≡ row_of glyphs (first_in glyphs c) l
   unfolding packed_row
@@ -71,4 +71,4 @@ module _ (glyphs : List ℕ) where
       rw (eq-eqb (length (packed_font glyphs)) font_rows long, small)
     where
       each : (k : ℕ) → k < font_rows → get_or (packed_font glyphs) k 0 ≤ most_row
-      each k l = omega (arith, get_d_tabulate font_rows (λ i. packed_row glyphs (i / rows_of_cell) (i % rows_of_cell)) k 0 l, row_small are (k / 18) (k % 18))
+      each k l = omega (arith, get_or_tabulate font_rows (λ i. packed_row glyphs (i / rows_of_cell) (i % rows_of_cell)) k 0 l, row_small are (k / 18) (k % 18))

@@ -13,7 +13,7 @@ use lib.Seq.{take_at}
 use Rattle.laws.specs.Pick.{pick}
 use Rattle.laws.specs.Lists.{tabulate}
 use Rattle.laws.specs.Said.{Said, accepted, refused}
-use Rattle.laws.proofs.Lists.{length_tabulate, get_d_tabulate}
+use Rattle.laws.proofs.Lists.{length_tabulate, get_or_tabulate}
 use Rattle.laws.proofs.Said.{number_of}
 use Rattle.font.specs.Font.{font_cells, rows_of_cell, font_rows, row_of}
 use Rattle.packer.specs.Glyphs.{glyphs_in, first_like, patterns_before, patterns_in, cell_for, first_in, packed_row, packed_font}
@@ -54,7 +54,7 @@ module _ (glyphs font cells : List ℕ) (used : ℕ) (told : Accepted glyphs fon
       let left : cells_left glyphs font cells ≡ tabulate (glyphs_in glyphs) (cell_for glyphs) ++ drop (glyphs_in glyphs) cells = rw t.packs_it in
       ap (λ (r : List ℕ). get_or r g 0) left
       ∙ get_or-append (tabulate (glyphs_in glyphs) (cell_for glyphs)) (drop (glyphs_in glyphs) cells) 0 g (omega (arith, length_tabulate (glyphs_in glyphs) (cell_for glyphs)))
-      ∙ get_d_tabulate (glyphs_in glyphs) (cell_for glyphs) g 0 l
+      ∙ get_or_tabulate (glyphs_in glyphs) (cell_for glyphs) g 0 l
 
   -- so is the font
   pub font_given_law : font_given glyphs font cells ≡ packed_font glyphs

@@ -1,11 +1,12 @@
 // A cell's row of 12 bits laid over dots of a line, with the shadow that falls on it.
 #![tactic(auto)]
 
-ghost use Rattle.std.specs.Prelude.{◌≡◌, ◌+◌, ◌*◌, ◌≤◌, length};
+ghost use Rattle.std.specs.Prelude.{◌≡◌, ◌+◌, ◌*◌, ◌<◌, ◌≤◌, length};
 ghost use Rattle.laws.specs.Lines.{overlay};
+ghost use Rattle.laws.specs.Pick.{pick};
 ghost use Rattle.laws.specs.Placing.{patched};
 ghost use Rattle.font.specs.Font.{cell_columns, bit_set};
-ghost use Rattle.stretch.specs.Stretch.{shade_set, tone_of, stretched};
+ghost use Rattle.stretch.specs.Stretch.{shade_set, stretched};
 
 use units::Dots;
 
@@ -25,7 +26,37 @@ pub struct Ink {
     pub off: u8,
 }
 
-// The row from dot x on, each bit `size` dots wide; what lies beyond the line is cut.
+// A column is a plain number, as `bit_set` and `shade_set` of specs/ take it: a type of columns would be taken apart in each promise.
+impl Row {
+    // Whether the shadow falls on column j: on the first the cell before throws it.
+    fn is_shaded(self, j: usize) -> bool
+        requires { j + 1 ≤ cell_columns }
+        ensures { result ≡ shade_set self.above self.before j }
+    {
+        if j == 0 {
+            self.before
+        } else {
+            is_set(self.above, j - 1)
+        }
+    }
+
+    // Which of three column j shows: a set bit has no shadow on it.
+    fn tone<T: Copy>(self, j: usize, on: T, shade: T, off: T) -> T
+        requires { j + 1 ≤ cell_columns }
+        ensures { result ≡ pick (bit_set self.bits j) on (pick (shade_set self.above self.before j) shade off) }
+    {
+        if is_set(self.bits, j) {
+            on
+        } else if self.is_shaded(j) {
+            shade
+        } else {
+            off
+        }
+    }
+}
+
+// Dot, size, row and ink stay parameters side by side: `stretched` of specs/ takes each of the four by itself, so that every promise would take a struct of them apart again.
+// The row from dot x on, each bit `size` dots wide; what lies beyond the line is cut. Of the four sizes that rows have, a cell that the line has whole is painted with its size known.
 pub fn stretch(out: &mut [u8], x: Dots, size: u8, row: Row, ink: Ink)
     ensures { out.new ≡ overlay (stretched x.0 (cell_columns * size) size row ink) out.old }
 {
@@ -34,127 +65,61 @@ pub fn stretch(out: &mut [u8], x: Dots, size: u8, row: Row, ink: Ink)
         return;
     }
     let wide = size as usize;
-    let dots = font::CELL_COLUMNS * wide;
-    let room = out.len() - from;
-    if room < dots {
-        dot_by_dot(out, from, wide, room, row, ink);
+    if out.len() - from < font::CELL_COLUMNS * wide {
+        any_cell(out, from, wide, row, ink);
         return;
     }
-    if size == 0 {
-        return;
+    match size {
+        1 => whole_cell::<1>(out, from, row, ink),
+        2 => whole_cell::<2>(out, from, row, ink),
+        3 => whole_cell::<3>(out, from, row, ink),
+        4 => whole_cell::<4>(out, from, row, ink),
+        _ => any_cell(out, from, wide, row, ink),
     }
-    if 4 < size {
-        dot_by_dot(out, from, wide, dots, row, ink);
-        return;
-    }
-    by_columns(out, from, wide, row, ink);
 }
 
 // So many dots of one byte from dot x on, cut where the line ends.
 pub fn strip(out: &mut [u8], x: Dots, size: u8, byte: u8)
     ensures { out.new ≡ overlay (patched x.0 size (λ d. byte)) out.old }
 {
-    let from = x.0;
-    if out.len() <= from {
-        return;
-    }
-    let wide = size as usize;
-    let room = out.len() - from;
-    let row = Row {
-        bits: 0,
-        above: 0,
-        before: false,
-    };
-    let ink = Ink {
-        on: byte,
-        shade: byte,
-        off: byte,
-    };
-    if room < wide {
-        dot_by_dot(out, from, wide, room, row, ink);
-    } else {
-        dot_by_dot(out, from, wide, wide, row, ink);
+    cut_column(out, x.0, size as usize, byte);
+}
+
+// A cell that the line has whole: column by column, with no test of the line's end. The three runs of dots that a column can be are made once, four dots long at any size: four bytes
+// are one number to the processor, and runs of three, tried, took twice the time.
+fn whole_cell<const SIZE: usize>(out: &mut [u8], from: usize, row: Row, ink: Ink)
+    requires { (SIZE ≤ 4) × (from + cell_columns * SIZE ≤ length out.old) }
+    ensures { out.new ≡ overlay (stretched from (cell_columns * SIZE) SIZE row ink) out.old }
+{
+    let on = [ink.on; 4];
+    let shade = [ink.shade; 4];
+    let off = [ink.off; 4];
+    for j in 0..font::CELL_COLUMNS {
+        let at = from + j * SIZE;
+        let run = row.tone(j, on, shade, off);
+        out[at..at + SIZE].copy_from_slice(&run[..SIZE]);
     }
 }
 
-// A cell that the line has whole: column by column, with no test of the line's end and no division. The first column is by itself, so that no value goes from one column to the next.
-fn by_columns(out: &mut [u8], from: usize, size: usize, row: Row, ink: Ink)
-    requires { ((1 ≤ size) × (size ≤ 4)) × (from + cell_columns * size ≤ length out.old) }
+// A cell of any size, cut where the line ends.
+fn any_cell(out: &mut [u8], from: usize, size: usize, row: Row, ink: Ink)
+    requires { (from < length out.old) × (size < 256) }
     ensures { out.new ≡ overlay (stretched from (cell_columns * size) size row ink) out.old }
 {
-    column(out, from, size, tone(is_set(row.bits, 0), row.before, ink));
-    let mut j = 1;
-    while j < font::CELL_COLUMNS {
-        column(
-            out,
-            from + j * size,
-            size,
-            tone(is_set(row.bits, j), is_set(row.above, j - 1), ink),
-        );
-        j += 1;
+    for column in 0..font::CELL_COLUMNS {
+        let byte = row.tone(column, ink.on, ink.shade, ink.off);
+        cut_column(out, from + column * size, size, byte);
     }
 }
 
-// One to four dots of one byte.
-fn column(out: &mut [u8], from: usize, size: usize, byte: u8)
-    requires { ((1 ≤ size) × (size ≤ 4)) × (from + size ≤ length out.old) }
+// So many dots of one byte from a dot on, cut where the line ends.
+fn cut_column(out: &mut [u8], from: usize, size: usize, byte: u8)
     ensures { out.new ≡ overlay (patched from size (λ d. byte)) out.old }
 {
-    out[from] = byte;
-    if size == 1 {
-        return;
+    if from < out.len() {
+        let n = (out.len() - from).min(size);
+        out[from..from + n].fill(byte);
     }
-    out[from + 1] = byte;
-    if size == 2 {
-        return;
-    }
-    out[from + 2] = byte;
-    if size == 3 {
-        return;
-    }
-    out[from + 3] = byte;
-}
-
-// The first n dots of a cell, one after the other: dot i is dot c of column j.
-fn dot_by_dot(out: &mut [u8], from: usize, size: usize, n: usize, row: Row, ink: Ink)
-    requires { (from + n ≤ length out.old) × (n ≤ cell_columns * size) }
-    ensures { out.new ≡ overlay (stretched from n size row ink) out.old }
-{
-    let mut i = 0;
-    let mut j = 0;
-    let mut c = 0;
-    while i < n {
-        out[from + i] = tone(
-            is_set(row.bits, j),
-            is_shaded(row.above, row.before, j),
-            ink,
-        );
-        i += 1;
-        c += 1;
-        if c == size {
-            j += 1;
-            c = 0;
-        }
-    }
-}
-
-// A column's byte. A set bit has no shadow on it.
-fn tone(set: bool, shaded: bool, ink: Ink) -> u8
-    ensures { result ≡ tone_of set shaded ink }
-{
-    if set {
-        ink.on
-    } else {
-        if shaded { ink.shade } else { ink.off }
-    }
-}
-
-// Whether the shadow falls on column j.
-fn is_shaded(above: u16, before: bool, j: usize) -> bool
-    requires { j + 1 ≤ cell_columns }
-    ensures { result ≡ shade_set above before j }
-{
-    if j == 0 { before } else { is_set(above, j - 1) }
 }
 
 // Whether a row's bit in column j is set, bit 11 leftmost.

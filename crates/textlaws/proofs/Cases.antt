@@ -12,7 +12,7 @@ use lib.ListN.{get_or}
 use Rattle.laws.specs.Said.{Said, accepted, refused}
 use Rattle.laws.specs.Lists.{tabulate, first_of}
 use Rattle.laws.specs.Sums.{sum_all}
-use Rattle.laws.proofs.Lists.{get_d_tabulate}
+use Rattle.laws.proofs.Lists.{get_or_tabulate}
 use Rattle.ihex.specs.Digits.{digit}
 use Rattle.ihex.specs.Lines.{LF, CR, lines, at_end, body_of}
 use Rattle.ihex.specs.Records.{belongs, is_shaped, spelled_by, records, is_end, gives, byte_in, is_given, fault_of}
@@ -103,7 +103,7 @@ their_bytes : (text text' : List ℕ) → image_in text ≡ image_in text' → b
 their_bytes text text' same = sym (at text) ∙ ap (λ (image : List ℕ). get_or image 2560 0) same ∙ at text'
   where
     at : (text : List ℕ) → get_or (image_in text) 2560 0 ≡ byte_in 255 (records text) 2560
-    at text = get_d_tabulate 8192 (byte_in 255 (records text)) 2560 0 (omega arith)
+    at text = get_or_tabulate 8192 (byte_in 255 (records text)) 2560 0 (omega arith)
 
 -- a text that is accepted with a count of 1, and the same with a small letter; that text, and one with other records and a count of 0; and a text that
 -- is refused, as it has no end record

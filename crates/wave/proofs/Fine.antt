@@ -1,13 +1,7 @@
 -- Which fine bit serves a sub-period, read from a count of trailing zeros at any width: a law of numbers, and the account's `added` by it.
 -- Assumes nothing.
-use Prim.Native.Nat.{ℕ, zero, suc, ◌-◌, ◌/◌, ◌%◌, ◌^◌, ◌<◌, ◌≤◌, suc-le-suc}
-use mathlib.Core.Path.{◌≡◌, refl, sym, ap, ◌∙◌}
-use mathlib.Core.Bool.{Bool, true, false}
-use native.Mathlib.Nat.{not-suc-le-zero, pow-suc}
-use native.Mathlib.Omega.{arith}
-use lib.Dec.{eqb}
-use lib.Count.{count_trailing_zeros, under}
-use borrow.Author.Tests.{eq-eqb, ne_eqb}
+use Rattle.std.proofs.Common.{ℕ, zero, suc, ◌-◌, ◌/◌, ◌%◌, ◌^◌, ◌<◌, ◌≤◌, suc-le-suc, ◌≡◌, refl, sym, ap, ◌∙◌, Bool, true, false, not-suc-le-zero, pow-suc, arith, eqb, eq-eqb, ne_eqb}
+use Rattle.std.specs.Int.Count.{count_trailing_zeros, under}
 use Rattle.laws.specs.Pick.{pick}
 use Rattle.wave.specs.Wave.{sub_periods, added, bit}
 

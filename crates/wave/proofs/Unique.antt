@@ -1,8 +1,6 @@
 -- No other answer, and no other contents of the bytes lent, meet a promise of this crate.
 -- Assumes nothing.
-use mathlib.Core.Path.{sym, ap, ◌∙◌}
-use mathlib.Core.List.{List}
-use Prim.Native.Nat.{ℕ}
+use Rattle.std.proofs.Common.{sym, ap, ◌∙◌, List, ℕ}
 use Rattle.laws.proofs.Determined.{Determines, both_say}
 use Rattle.wave.specs.contracts.lay as lay
 use Rattle.wave.specs.contracts.lay_from_start as lay_from_start

@@ -1,21 +1,13 @@
 -- The levels of a wave, joined to what the code writes: within a sub-period a wave is high and then low, and a wave is its first levels and then the
 -- others.
 -- Assumes nothing.
-use Prim.Native.Nat.{ℕ, zero, suc, ◌+◌, ◌-◌, ◌*◌, ◌/◌, ◌%◌, ◌<◌, ◌≤◌, min}
-use mathlib.Core.Path.{◌≡◌, refl, sym, ap, ap₂, ◌∙◌}
-use mathlib.Core.Bool.{Bool, true, false}
-use mathlib.Core.List.{List, [], ◌∷◌, ◌++◌, append_assoc, append-nil}
-use native.Mathlib.Nat.{zero-add, suc-add, add-suc, add-zero}
-use native.Mathlib.Decide.{ℕ_discrete, dec_lt}
-use native.Mathlib.Omega.{arith}
-use lib.Dec.{ltb}
-use lib.ListN.{length, get_or, take, drop, set, replicate, length-append, length-drop, length-set}
-use lib.Seq.{take_at, drop_at, drop-drop, drop-length, length-take-le, get_or-set_same, get_or-set_other}
-use borrow.Author.Tests.{ltb-true, ltb-false, lt-ltb, le-ltb}
+use Rattle.std.proofs.Common.{ℕ, zero, suc, ◌+◌, ◌-◌, ◌*◌, ◌/◌, ◌%◌, ◌<◌, ◌≤◌, min, ◌≡◌, refl, sym, ap, ap₂, ◌∙◌, Bool, true, false, List, [], ◌∷◌, ◌++◌, append_assoc, append-nil, zero-add, suc-add, add-suc, add-zero, arith, ltb, length, get_or, take, drop, set, replicate, length-append, length-drop, length-set, take_at, drop_at, drop-drop, length-take-le, get_or-set_same, get_or-set_other, ltb-true, ltb-false, lt-ltb, le-ltb}
+use Rattle.std.proofs.Math.Decide.{ℕ_discrete, dec_lt}
+use Rattle.std.proofs.Math.Seq.{drop-length}
 use Rattle.laws.specs.Pick.{pick}
 use Rattle.laws.specs.Lists.{tabulate}
 use Rattle.laws.specs.Sums.{sum_all}
-use Rattle.laws.proofs.Lists.{length_tabulate, get_d_tabulate, is_tabulate, tabulate_same}
+use Rattle.laws.proofs.Lists.{length_tabulate, get_or_tabulate, is_tabulate, tabulate_same}
 use Rattle.laws.proofs.Sums.{sum_append, sum_same}
 use Rattle.wave.specs.declared.Pair.{Pair}
 use Rattle.wave.specs.Wave.{period, sub_period, added, level, wave, wave_in, laid}
@@ -226,7 +218,7 @@ one_more c b i x n ys inside most ahead laid =
         by (no l) = let m : x ≤ k = omega arith in rw (le-ltb k x m) (low m)
 
     old : ys ≡ pulse 0 c n → (k : ℕ) → k < n → get_or ys k 0 ≡ level_below (0 + k) c
-    old is k h = ap (λ (l : List ℕ). get_or l k 0) (is ∙ pulse_is 0 c n) ∙ get_d_tabulate n _ k 0 h
+    old is k h = ap (λ (l : List ℕ). get_or l k 0) (is ∙ pulse_is 0 c n) ∙ get_or_tabulate n _ k 0 h
 
     go : ys ≡ pulse 0 c n → length ys ≡ n → (k : ℕ) → k < n → Dec (k ≡ c) → get_or (set ys c b) k 0 ≡ level_below (0 + k) (c + b)
     go is size k h (yes e) = rw e (get_or-set_same ys c b 0 (omega arith) ∙ level_is c (c + b) b (λ l. omega arith) (λ l. omega arith))

@@ -1,4 +1,5 @@
 pub mod Lists
 pub mod Spelling
 pub mod Rows
+pub mod Places
 pub mod Unique

@@ -11,11 +11,6 @@ pub sets_append : (t : List ℕ) (at : ℕ) (a b : List ℕ) → sets t at (a ++
 sets_append t at [] b = rw (add-zero at)
 sets_append t at (x ∷ a) b = sets_append (set t at x) (suc at) a b ∙ ap (λ n. sets (sets (set t at x) (suc at) a) n b) (omega arith)
 
--- three parts in turn
-pub sets_three : (t : List ℕ) (at p q : ℕ) (a b c : List ℕ) → at + length a ≡ p → p + length b ≡ q
-    → sets (sets (sets t at a) p b) q c ≡ sets t at (a ++ (b ++ c))
-sets_three t at p q a b c e g = sym (sets_append t at a (b ++ c) ∙ rw e (sets_append (sets t at a) p b c ∙ rw g))
-
 module _ {A : Type 0} (g : A → List ℕ) where
   pub flat_append : (xs ys : List A) → flat_map g (xs ++ ys) ≡ flat_map g xs ++ flat_map g ys
   unfolding flat_map

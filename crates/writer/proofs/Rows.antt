@@ -1,18 +1,10 @@
 -- Where the rows of a font lie in the records of its image: record n holds rows of cell n % 256 / 2, from its row 0 or 16 on, in its first
 -- bytes; the bytes after them are FF.
 -- Assumes nothing.
-use Rattle.std.proofs.Common.{◌≡◌, ℕ, ◌+◌, ◌*◌, ◌/◌, ◌%◌, ◌<◌, ◌≤◌, Bool, true, false, eqb, ltb, List, get_or, sym, ◌∙◌, arith, le-ltb, lt-ltb, eq-eqb, ne_eqb}
+use Rattle.std.proofs.Common.{◌≡◌, ℕ, ◌+◌, ◌*◌, ◌/◌, ◌%◌, ◌<◌, ◌≤◌, ltb, List, get_or, sym, ◌∙◌, arith, le-ltb, lt-ltb, eq-eqb, ne_eqb}
 use native.Mathlib.Decide.{dec_lt, ℕ_discrete}
-use Rattle.laws.specs.Pick.{pick}
-use Rattle.laws.specs.Lists.{tabulate}
-use Rattle.image.specs.Image.{image_of, half_at, due_at}
-use Rattle.laws.proofs.Lists.{get_d_tabulate, tabulate_same}
-use Rattle.writer.specs.Text.{bytes_in}
+use Rattle.image.specs.Image.{half_at, due_at}
 use Rattle.writer.specs.Steps.{count_of_rows}
-
--- the data of a record are the bytes due
-pub bytes_due : (font : List ℕ) (n : ℕ) → n < 512 → bytes_in (image_of font) n ≡ tabulate 16 (λ i. due_at font (16 * n + i))
-bytes_due font n h = tabulate_same 16 _ _ (λ i g. get_d_tabulate 8192 (due_at font) (16 * n + i) 0 (omega arith))
 
 module _ (n : ℕ) (h : n < 512) where
   -- the place of byte i of record n
@@ -36,7 +28,7 @@ module _ (n : ℕ) (h : n < 512) where
   rows_odd c e = simp (lt-ltb _ _ c, ne_eqb _ _ e)
 
   -- what a number of rows says of the cell and of the half
-  pub record Held (i : ℕ) : Type 0 where
+  record Held (i : ℕ) : Type 0 where
     pub cell : n % 256 / 2 < 62
     pub row : 16 * (n % 2) + i < 18
     pub below : i < 16
@@ -48,18 +40,6 @@ module _ (n : ℕ) (h : n < 512) where
       go (yes c) (yes e) = record { cell = c; row = omega (arith, rows_even c e); below = omega (arith, rows_even c e) }
       go (yes c) (no e) = record { cell = c; row = omega (arith, rows_odd c e); below = omega (arith, rows_odd c e) }
       go (no c) e = absurd (omega (arith, rows_none (omega arith)))
-
-  pub row_below : (i : ℕ) → i < count_of_rows n → 18 * (n % 256 / 2) + 16 * (n % 2) + i < 1116
-  row_below i l = let at = held i l in omega arith
-
-  pub rows_most : count_of_rows n ≤ 16
-  unfolding count_of_rows
-  rows_most = go (ltb (n % 256 / 2) 62) (eqb (n % 2) 0)
-    where
-      go : (b d : Bool) → pick b (pick d 16 2) 0 ≤ 16
-      go true true = omega arith
-      go true false = omega arith
-      go false d = omega arith
 
   pub due_row : (font : List ℕ) (i : ℕ) → i < count_of_rows n → half_at (16 * n) (get_or font (18 * (n % 256 / 2) + 16 * (n % 2) + i) 0) ≡ due_at font (16 * n + i)
   unfolding due_at half_at

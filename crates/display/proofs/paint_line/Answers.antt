@@ -8,7 +8,7 @@ use Rattle.display.proofs.paint_line.Goals as goal
 pub row_step-requires : goal.row_step-requires
 row_step-requires c =
     let pre = c.requires in
-    record { rows = pre.rows; room = record { start = omega arith; right = omega arith; down = omega arith; some = omega arith; size = omega arith; colour = omega arith } }
+    record { start = omega arith; right = omega arith; down = omega arith; some = omega arith; size = omega arith; colour = omega arith }
 
 pub returns : goal.returns
 returns c =

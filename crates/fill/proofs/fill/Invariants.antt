@@ -1,13 +1,7 @@
--- `fill::fill` meets its contract: after i stores the first i bytes are the byte, and the others as they came.
+-- `fill::fill`: each of the first items, as many as the loop has come to, is the item.
 -- Assumes nothing.
-use Prim.Native.Nat.{◌-◌, ◌≤◌}
-use mathlib.Core.Path.{◌≡◌}
-use mathlib.Core.List.{◌++◌}
-use lib.ListN.{length, drop, replicate}
+use Rattle.std.proofs.Common.{◌≡◌, take, replicate}
 use Rattle.fill.proofs.fill.Given as goal
 
-abbrev pub invariant-loop-i : goal.invariant-loop-i
-invariant-loop-i l = (length l.bytes ≡ length l.initial.bytes) × (l.i ≤ length l.initial.bytes) × (l.bytes ≡ replicate l.i l.byte ++ drop l.i l.initial.bytes)
-
-abbrev pub decreases-loop-i : goal.decreases-loop-i
-decreases-loop-i l = length l.initial.bytes - l.i
+abbrev pub invariant-loop-place : goal.invariant-loop-place
+invariant-loop-place g l = take l.place-index l.items ≡ replicate l.place-index l.fn.item

@@ -1,35 +1,29 @@
--- `fontline::check` meets its contract: what the two calls say is what `checked` says, so the line is the line for it.
+-- `fontline::check` meets its contract: the first of the two calls that refuses decides, else the count that reading gives.
 -- Assumes nothing.
-use native.Mathlib.Omega.{arith}
-use Rattle.fontline.proofs.Checking.{is_read, image_turned, line_same, read_refuses, turning_refuses, both_accept}
+use Rattle.std.proofs.Common.{◌∙◌, ap, sym, arith}
+use Rattle.laws.proofs.Said.{said_by}
+use Rattle.fontline.proofs.Checking.{some_number, said_refusal, read_refuses, turning_refuses, both_accept}
+use Rattle.ihex.specs.Reading.{said as said_read}
+use Rattle.image.specs.Image.{said as said_turned}
+use Rattle.fontline.specs.declared.NoFont.TheVariants.{Text, Image}
 use Rattle.fontline.proofs.check.Goals as goal
 
-pub returns-then-read-ne0 : goal.returns-then-read-ne0
-returns-then-read-ne0 c =
-    let text = c.args.text.now in
-    let read = c.read.ensures in
-    let told = c.read_answer-read.ensures in
-    let is = is_read text told read.0 in
-    line_same (read_refuses text _ is (omega arith)) (search)
+pub returns-in_err-count : goal.returns-in_err-count
+returns-in_err-count c =
+    let refusal = c.in_err-count.field-0.0 in
+    let reads = sym (ap said_read c.in_err-count.was) ∙ c.read.ensures.0 in
+    said_refusal _ (Text refusal) c.from_residual.ensures.1 ∙ read_refuses _ (some_number (Text refusal)) reads
 
-pub returns-then-turned-ne0 : goal.returns-then-turned-ne0
-returns-then-turned-ne0 c =
-    let text = c.args.text.now in
-    let read = c.read.ensures in
-    let told = c.read_answer-read.ensures in
-    let is = is_read text told read.0 in
-    let turning = c.image_to_font.ensures in
-    let turned = c.turned_answer-turned.ensures in
-    let is_turned = image_turned text told read.0 (omega arith) read.1 turned turning.0 in
-    line_same (turning_refuses text _ is (omega arith) _ is_turned (omega arith)) (search)
+pub returns-in_err-image_to_font : goal.returns-in_err-image_to_font
+returns-in_err-image_to_font c =
+    let refusal = c.in_err-image_to_font.field-0.0 in
+    let reads = sym (ap said_read c.in_ok-count.was) ∙ c.read.ensures.0 in
+    let turns = sym (ap said_turned c.in_err-image_to_font.was) ∙ c.image_to_font.ensures.0 in
+    said_refusal _ (Image refusal) c.from_residual-in_err-image_to_font.ensures.1
+    ∙ turning_refuses _ reads c.read.ensures.1 (some_number (Image refusal)) turns
 
 pub returns : goal.returns
 returns c =
-    let text = c.args.text.now in
-    let read = c.read.ensures in
-    let told = c.read_answer-read.ensures in
-    let is = is_read text told read.0 in
-    let turning = c.image_to_font.ensures in
-    let turned = c.turned_answer-turned.ensures in
-    let is_turned = image_turned text told read.0 (omega arith) read.1 turned turning.0 in
-    line_same (both_accept text _ is (omega arith) _ is_turned (omega arith)) (search)
+    let reads = sym (ap said_read c.in_ok-count.was) ∙ c.read.ensures.0 in
+    let turns = sym (ap said_turned c.in_ok-image_to_font.was) ∙ c.image_to_font.ensures.0 in
+    said_by (both_accept _ reads c.read.ensures.1 turns) (omega arith) (omega arith) (omega arith)

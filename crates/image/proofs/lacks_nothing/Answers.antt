@@ -1,28 +1,18 @@
 -- `image::lacks_nothing` meets its contract: its four parts are the image.
 -- Assumes nothing.
-use mathlib.Core.Path.{◌≡◌}
-use Prim.Native.Nat.{◌≤◌}
-use native.Mathlib.Omega.{arith}
-use borrow.Author.Tests.{eqb-true}
-use lib.Bits.{bit_and, and_le_l, and_le_r}
-use Rattle.image.specs.Steps.{Held}
+use Rattle.std.proofs.Common.{refl, sym, ◌∙◌, arith}
+use Rattle.std.proofs.lemmas.Bool.{false≢true}
 use Rattle.image.proofs.Spared.{whole_parts}
 use Rattle.image.proofs.lacks_nothing.Goals as goal
+use Rattle.image.proofs.lacks_nothing.Goals.{then-held, else-held, then-held-2, else-held-2}
 
-pub returns : goal.returns
-returns c e =
-    let image = c.args.image.now in
-    let low = c.held-low in
-    let low_rest = c.held-low_rest in
-    let high = c.held-high in
-    let high_rest = c.held-high_rest in
-    let lows = bit_and low.result low_rest.result in
-    let highs = bit_and high.result high_rest.result in
-    let all : bit_and lows highs ≡ 255 = eqb-true _ _ e in
-    let all_low : 255 ≤ lows = omega (arith, all, and_le_l lows highs) in
-    let all_high : 255 ≤ highs = omega (arith, all, and_le_r lows highs) in
-    let low_held : Held image 255 0 1984 = λ k l u. omega (arith, low.ensures (omega (arith, all_low, and_le_l low.result low_rest.result)) k (omega arith) (omega arith)) in
-    let low_rest_held : Held image 0 1984 4096 = λ k l u. omega (arith, low_rest.ensures (omega (arith, all_low, and_le_r low.result low_rest.result)) k (omega arith) (omega arith)) in
-    let high_held : Held image 15 4096 6080 = λ k l u. omega (arith, high.ensures (omega (arith, all_high, and_le_l high.result high_rest.result)) k (omega arith) (omega arith)) in
-    let high_rest_held : Held image 0 6080 8192 = λ k l u. omega (arith, high_rest.ensures (omega (arith, all_high, and_le_r high.result high_rest.result)) k (omega arith) (omega arith)) in
-    whole_parts image low_held low_rest_held high_held high_rest_held
+pub returns-then-held-3 : goal.returns-then-held-3
+returns-then-held-3 c e = elim c.if-held-2.branch [
+  | then-held-2 w ↦ elim c.if-held.branch [
+    | then-held v ↦
+        whole_parts c.args.image.now (omega arith) (v.if-held.ensures refl) (v.held-then-held.ensures (sym v.value-is ∙ w.if-held-2.true))
+        (w.held-then-held-2.ensures (sym w.value-is ∙ c.if-held-3.true)) (c.held-then-held-3.ensures e)
+    | else-held v ↦ absurd (false≢true (sym v.if-held.false ∙ sym v.value-is ∙ w.if-held-2.true))
+  ]
+  | else-held-2 w ↦ absurd (false≢true (sym w.if-held-2.false ∙ sym w.value-is ∙ c.if-held-3.true))
+]

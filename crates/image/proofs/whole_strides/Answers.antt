@@ -1,22 +1,22 @@
--- `image::whole_strides` meets its contract: no address passed lacks a bit, and whole strides are passed; the measure is what is left of the image.
+-- `image::whole_strides` meets its contract: no address passed lacks a bit.
 -- Assumes nothing.
-use Rattle.image.proofs.Strides.{whole_more}
-use native.Mathlib.Omega.{arith}
-use lib.ListN.{get_or}
-use Prim.Native.Nat.{ℕ, ◌+◌, ◌<◌, ◌≤◌}
+use Rattle.std.proofs.Common.{◌≡◌, ℕ, ◌+◌, ◌*◌, ◌<◌, ◌≤◌, length, get_or, arith}
+use Rattle.image.proofs.Strides.{part_reaches, whole_more}
 use Rattle.image.specs.Image.{least_at}
 use Rattle.image.proofs.whole_strides.Goals as goal
 
-pub loop-at-init : goal.loop-at-init
-loop-at-init c = (omega arith, record { inside = omega arith; whole = λ k h. absurd (omega arith) })
+pub loop-stride-init : goal.loop-stride-init
+loop-stride-init c = record { inside = omega arith; whole = λ k h. absurd (omega arith) }
 
-pub loop-at-preserved : goal.loop-at-preserved
-loop-at-preserved c =
+pub loop-stride-preserved : goal.loop-stride-preserved
+loop-stride-preserved c =
     let image = c.args.image.now in
-    let l = c.loop-at in
+    let at = 32 * c.loop-stride.stride in
     let least = c.least.ensures in
-    let in_rows = c.falls_below.ensures in
-    let outside = c.falls_below-in-loop-at.ensures in
-    let rows : (k : ℕ) → k < 18 → least_at l.at ≤ get_or image (l.at + k) 0 = λ k h. omega (arith, least, in_rows (search) k h) in
-    let others : (k : ℕ) → k < 14 → 255 ≤ get_or image (l.at + 18 + k) 0 = λ k h. omega (arith, outside (search) k h) in
-    (omega arith, record { inside = omega arith; whole = whole_more l.at l.invariant.0 image l.invariant.1.whole rows others })
+    let size : length image ≡ 8192 = omega arith in
+    let in_rows = part_reaches image _ at _ (omega arith) (c.falls_below.ensures c.if-falls_below.false) in
+    let outside = part_reaches image _ (at + 18) _ (omega arith) (c.falls_below-else-falls_below.ensures c.if-falls_below-2.false) in
+    let rows : (k : ℕ) → k < 18 → least_at at ≤ get_or image (at + k) 0 = λ k h. omega (arith, least, in_rows k (omega arith)) in
+    let others : (k : ℕ) → k < 14 → 255 ≤ get_or image (at + 18 + k) 0 = λ k h. omega (arith, outside k (omega arith)) in
+    let whole = whole_more at (omega arith) image c.loop-stride.invariant.whole rows others in
+    record { inside = omega arith; whole = λ k h. whole k (omega arith) }

@@ -1,21 +1,15 @@
--- `modes::divisor`: a power of two for each frequency.
+-- `modes::divisor`: a power of two of at most 8 is shifted, so that no bit is lost.
 -- Assumes nothing.
-use native.Mathlib.Omega.{arith}
-use mathlib.Core.Path.{◌≡◌, ap, sym}
+use Rattle.std.proofs.Common.{◌≡◌, ◌*◌, ◌^◌, ◌%◌, ◌≤◌, arith}
+use Rattle.std.proofs.Math.Nat.{mod-eq_of_lt, one-le-pow, pow-le-pow_right}
 use Rattle.modes.specs.Modes.{divisor_of}
 use Rattle.modes.proofs.divisor.Goals as goal
 
-pub returns-in-0 : goal.returns-in-0
-returns-in-0 c = (ap divisor_of (sym c.in-0.is), (omega arith, omega arith))
-
-pub returns-in-1 : goal.returns-in-1
-returns-in-1 c = (ap divisor_of (sym c.in-1.is), (omega arith, omega arith))
-
-pub returns-in-2 : goal.returns-in-2
-returns-in-2 c = (ap divisor_of (sym c.in-2.is), (omega arith, omega arith))
-
-pub returns-in_default : goal.returns-in_default
-returns-in_default c =
-    let a = c.args in
-    let e : a.frequency ≡ 3 = omega arith in
-    (ap divisor_of (sym e), (omega arith, omega arith))
+pub returns : goal.returns
+returns c =
+    let f = c.args.frequency in
+    let least : 1 ≤ 2 ^ f = one-le-pow f 2 (omega arith) in
+    let small : f ≤ 3 = omega arith in
+    let most : 2 ^ f ≤ 2 ^ 3 = pow-le-pow_right (omega arith) small in
+    let kept : 16 * 2 ^ f % 4294967296 ≡ divisor_of f = mod-eq_of_lt (omega arith) in
+    (kept, omega arith)

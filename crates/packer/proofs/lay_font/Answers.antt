@@ -1,63 +1,23 @@
--- `packer::lay_font` meets its contract: the cells before `cell` are as the font has them, and then the rest is.
+-- `packer::lay_font` meets its contract: the cells before `cell` have their patterns' rows, and what is past the font is as it was.
 -- Assumes nothing.
-use Rattle.std.proofs.Common.{arith, w16}
-use borrow.Table.Referent.{f_int}
-use borrow.Rule.Slice.Know.{Fit}
-use Rattle.laws.proofs.Lists.{filled_none, filled_all}
-use Rattle.packer.proofs.Laid.{lay_there, lay_more, lay_rest}
+use Rattle.std.proofs.Common.{ℕ, [], ◌*◌, get_or, ap, ◌∙◌, arith, rules}
+use Rattle.std.proofs.lemmas.List.{get_or-take}
+use Rattle.std.proofs.lemmas.Slice.{drop-put_mid}
+use Rattle.packer.proofs.Laid.{laid_more, laid_all}
 use Rattle.packer.proofs.lay_font.Goals as goal
-
-pub loop-cell-init : goal.loop-cell-init
-loop-cell-init c = (omega arith, filled_none _ _)
-
-pub bounds-firsts-cell : goal.bounds-firsts-cell
-bounds-firsts-cell c =
-    let a = c.args in
-    let turn = c.loop-cell in
-    omega (arith, c.requires.few, c.requires.roomy)
-
-pub overflow_cast-first : goal.overflow_cast-first
-overflow_cast-first c =
-    let a = c.args in
-    let turn = c.loop-cell in
-    let fits : Fit (f_int w16) 0 a.firsts.now = search in
-    omega (arith, fits turn.cell)
-
-pub overflow_mul-cell : goal.overflow_mul-cell
-overflow_mul-cell c =
-    let a = c.args in
-    let turn = c.loop-cell in
-    omega (arith, lay_there a.glyphs.now a.firsts.now a.used _ c.requires turn.cell (omega arith))
-
-pub copy_cell-requires : goal.copy_cell-requires
-copy_cell-requires c =
-    let a = c.args in
-    let turn = c.loop-cell in
-    let there = lay_there a.glyphs.now a.firsts.now a.used _ c.requires turn.cell (omega arith) in
-    (there.0, omega (arith, there.1, turn.invariant.1.size))
 
 pub loop-cell-preserved : goal.loop-cell-preserved
 loop-cell-preserved c =
-    let a = c.args in
+    let t = c.args.patterns.now in
     let turn = c.loop-cell in
-    let copied = c.copy_cell.ensures in
-    (omega arith, lay_more a.glyphs.now a.firsts.now a.used _ c.requires turn.cell _ _ (omega arith) copied turn.invariant.1)
-
-pub overflow_mul-used : goal.overflow_mul-used
-overflow_mul-used c =
-    let a = c.args in
-    let turn = c.loop-cell in
-    omega (arith, c.requires.few)
-
-pub clear-requires : goal.clear-requires
-clear-requires c =
-    let a = c.args in
-    let turn = c.loop-cell in
-    (omega (arith, c.requires.few), omega (arith, c.requires.room, turn.invariant.1.size))
+    let copied = c.copy_from_slice.ensures in
+    record {
+      rows = laid_more t.glyphs.now t.firsts turn.font _ turn.cell _ (omega arith) (omega (arith, t.kept.few, c.requires, turn.auto.font)) (search rules) (copied.after ∙ ap (λ (i : ℕ). get_or t.glyphs.now i []) (omega (arith, c.from.ensures, get_or-take t.used t.firsts turn.cell 0 (omega arith)))) turn.invariant.rows;
+      right = drop-put_mid (18 * turn.cell) _ turn.font _ 1116 (omega (arith, t.kept.few)) (omega (arith, t.kept.few, c.requires, turn.auto.font)) (search rules) ∙ turn.invariant.right;
+    }
 
 pub returns : goal.returns
 returns c =
-    let a = c.args in
+    let t = c.args.patterns.now in
     let turn = c.loop-cell in
-    let cleared = c.clear.ensures in
-    filled_all _ 1116 1116 _ _ (omega arith) c.requires.room (lay_rest a.glyphs.now a.firsts.now a.used _ c.requires turn.cell _ _ (omega arith) cleared turn.invariant.1)
+    laid_all t.glyphs.now t.firsts _ turn.font _ t.used _ (omega arith) t.kept.few (omega (arith, c.requires, turn.auto.font)) (omega (arith, turn.auto.font)) (search rules) (λ d i a b. turn.invariant.rows d i (omega arith) b) turn.invariant.right

@@ -1,8 +1,6 @@
 -- `wave::added` meets its contract: the bit that it reads is the one that serves the sub-period.
 -- Assumes nothing.
-use mathlib.Core.Path.{◌≡◌}
-use Prim.Native.Nat.{◌<◌}
-use native.Mathlib.Omega.{arith}
+use Rattle.std.proofs.Common.{◌≡◌, ◌<◌, arith}
 use Rattle.wave.proofs.Fine.{zeros_at, served, none_at_0}
 use Rattle.wave.proofs.added.Goals as goal
 

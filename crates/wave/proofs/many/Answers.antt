@@ -1,23 +1,8 @@
 -- `wave::many` meets its contract: two runs, one behind the other, are a pulse.
 -- Assumes nothing.
-use Prim.Native.Nat.{◌%◌}
-use mathlib.Core.Path.{◌≡◌, sym}
-use native.Mathlib.Omega.{arith}
-use lib.ListN.{length, take}
-use lib.Seq.{length-take-le}
+use Rattle.std.proofs.Common.{◌%◌, arith, length}
 use Rattle.wave.proofs.Within.{two_runs}
 use Rattle.wave.proofs.many.Goals as goal
-
-pub slice_bounds-count_down-end-2 : goal.slice_bounds-count_down-end-2
-slice_bounds-count_down-end-2 c =
-    let s = c.args.levels.now in
-    sym (length-take-le (length s % 8) s (omega arith))
-
-pub count_down-requires : goal.count_down-requires
-count_down-requires c =
-    let s = c.args.levels.now in
-    let few : length (take (length s % 8) s) ≡ length s % 8 = length-take-le (length s % 8) s (omega arith) in
-    omega (arith, few)
 
 pub returns : goal.returns
 returns c =
