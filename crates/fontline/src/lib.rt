@@ -57,8 +57,15 @@ impl Refusal for NoFont {
     }
 }
 
+// The line for a text, whatever the text is: what counting its bytes comes to.
+pub fn check(text: &[u8]) -> Line
+    ensures { said result.0 ≡ checked text.now }
+{
+    Line(count(text))
+}
+
 // What reading a text and turning its image into a font come to: how many bytes the records give, or the first refusal.
-pub fn check(text: &[u8]) -> Result<u32, NoFont>
+pub fn count(text: &[u8]) -> Result<u32, NoFont>
     ensures { said result ≡ checked text.now }
 {
     let mut image = [0u8; image::IMAGE_BYTES];
