@@ -72,7 +72,7 @@ line_printed w κs a g line ws ls b h bytes vs of_it =
     both_say w (λ p q. (q ∙ ap (λ (line : Line). line_for (said line.0)) of_it ∙ ap line_for p, ap (λ (s : Said). Some (line_for s)) p))
 
 -- The same of the line of whatever outcome meets the promise of `count`.
-pub count_printed : (w : World) (κs : Lfts count.ended.signature.lifetimes) (a : Args count.ended.signature κs) (g : (count.clauses w.𝓛 w.𝓜.mem w.𝓡.run κs a).ghost)
+pub outcome_printed : (w : World) (κs : Lfts count.ended.signature.lifetimes) (a : Args count.ended.signature κs) (g : (count.clauses w.𝓛 w.𝓜.mem w.𝓡.run κs a).ghost)
     (outcome : Res count.ended.signature κs) (ws : Lasts count.ended κs a)
     (ls : Lfts text.ended.signature.lifetimes) (b : Args text.ended.signature ls) (h : (text.clauses w.𝓛 w.𝓜.mem w.𝓡.run ls b).ghost)
     (bytes : Res text.ended.signature ls) (vs : Lasts text.ended ls b)
@@ -80,5 +80,5 @@ pub count_printed : (w : World) (κs : Lfts count.ended.signature.lifetimes) (a 
     → ent w.𝓤 (conj w.𝓤 ((count.clauses w.𝓛 w.𝓜.mem w.𝓡.run κs a).ensures g outcome (at_exit count.ended κs a ws))
     ((text.clauses w.𝓛 w.𝓜.mem w.𝓡.run ls b).ensures h bytes (at_exit text.ended ls b vs)))
     (fact w.𝓤 ((bytes.items ≡ line_for (checked a.0.now)) × (printing.ghosts.output (record { 0 = outcome }) ≡ Some (line_for (checked a.0.now)))))
-count_printed w κs a g outcome ws ls b h bytes vs of_it =
+outcome_printed w κs a g outcome ws ls b h bytes vs of_it =
     both_say w (λ p q. (q ∙ ap (λ (line : Line). line_for (said line.0)) of_it ∙ ap line_for p, ap (λ (s : Said). Some (line_for s)) p))
