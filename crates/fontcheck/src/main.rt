@@ -17,7 +17,6 @@ fn main(rt: HostRuntime) {
     let mut buffer = [0u8; ROOM];
     match read_input(&rt, &mut buffer) {
         Ok(count) => {
-            // The bytes themselves, which `text` promises of every line: `Display` promises them only where printing returns no error.
             let line = fontline::check(&buffer[..count]).text();
             if rt.stdout().write_all(line.as_slice()).is_err() {
                 let _ = eprintln!(rt;
