@@ -68,19 +68,16 @@ impl Dac {
     pub fn write_low(&mut self, byte: u8)
         ensures { self.new ≡ low_written self.old byte }
     {
-        let mut after = self.kept();
-        after.held.fine = byte % HALF;
-        *self = after;
+        let before = *self;
+        *self = before.low_held(byte);
     }
 
     // Holds a high half, which makes a completed pair with the low half held then.
     pub fn write_high(&mut self, byte: u8)
         ensures { self.new ≡ high_written self.old byte }
     {
-        let mut after = self.kept();
-        after.held.coarse = byte % HALF;
-        after.completed = after.held;
-        *self = after;
+        let before = *self;
+        *self = before.high_held(byte);
     }
 
     // Plays so many clocks: writes one byte for each, 1 where it is high and 0 where it is low, to the first bytes lent, and answers the
@@ -122,6 +119,24 @@ impl Dac {
         after.in_force = next;
         // of fewer clocks than a period has, so it is a kept count
         after.high = anew as u16;
+        after
+    }
+
+    // The steps of the writes to the two registers.
+    fn low_held(self, byte: u8) -> Dac
+        ensures { result ≡ low_written self byte }
+    {
+        let mut after = self.kept();
+        after.held.fine = byte % HALF;
+        after
+    }
+
+    fn high_held(self, byte: u8) -> Dac
+        ensures { result ≡ high_written self byte }
+    {
+        let mut after = self.kept();
+        after.held.coarse = byte % HALF;
+        after.completed = after.held;
         after
     }
 

@@ -5,9 +5,8 @@
 
 ghost use Rattle.std.specs.Prelude.{◌≡◌, ◌≤◌, IfOk, length};
 
-use fontline::Line;
 use std::io;
-use std::io::Read;
+use std::io::{Read, Write};
 
 // A byte more than a text may have.
 const ROOM: usize = 65536;
@@ -18,8 +17,8 @@ fn main(rt: HostRuntime) {
     let mut buffer = [0u8; ROOM];
     match read_input(&rt, &mut buffer) {
         Ok(count) => {
-            let line = Line(fontline::check(&buffer[..count]));
-            if print!(rt; "{line}").is_err() {
+            let line = fontline::check(&buffer[..count]).text();
+            if rt.stdout().write_all(line.as_slice()).is_err() {
                 let _ = eprintln!(rt;
                     "fontcheck: the line could not be written to standard output"
                 );

@@ -1,4 +1,4 @@
--- `fontline::check` meets its contract: the first of the two calls that refuses decides, else the count that reading gives.
+-- `fontline::count` meets its contract: the first of the two calls that refuses decides, else the count that reading gives.
 -- Assumes nothing.
 use Rattle.std.proofs.Common.{◌∙◌, ap, sym, arith}
 use Rattle.laws.proofs.Said.{said_by}
@@ -6,7 +6,7 @@ use Rattle.fontline.proofs.Checking.{some_number, said_refusal, read_refuses, tu
 use Rattle.ihex.specs.Reading.{said as said_read}
 use Rattle.image.specs.Image.{said as said_turned}
 use Rattle.fontline.specs.declared.NoFont.TheVariants.{Text, Image}
-use Rattle.fontline.proofs.check.Goals as goal
+use Rattle.fontline.proofs.count.Goals as goal
 
 pub returns-in_err-count : goal.returns-in_err-count
 returns-in_err-count c =
