@@ -1,7 +1,7 @@
 -- No second answer meets a promise: the numbers said of two answers agree, and each case has numbers of its own; a line's bytes are said whole. And the bytes
--- of the answer's line are the account's line for the text.
+-- of the answer's line are the account's line for the text, and so is what is printed of it.
 -- Assumes nothing.
-use Rattle.std.proofs.Common.{◌≡◌, ◌∙◌, ℕ, List, Result, Ok, Err, eqb, ap, refl, sym}
+use Rattle.std.proofs.Common.{◌≡◌, ◌∙◌, ℕ, List, Result, Ok, Err, Some, eqb, ap, refl, sym}
 use Rattle.std.specs.Result.{result_map_both}
 use Rattle.laws.specs.Pick.{pick}
 use Rattle.laws.specs.Said.{Said}
@@ -23,6 +23,7 @@ use Rattle.fontline.specs.contracts.count as count
 use Rattle.fontline.specs.contracts.Line.text as text
 use Rattle.fontline.specs.contracts.NoFontFromReadError.from as from_text
 use Rattle.fontline.specs.contracts.NoFontFromNotAFont.from as from_image
+use Rattle.fontline.specs.contracts.LineDisplay.TheImpl as printing
 
 -- the answer of which this is said: 13 is the image's, and the reader has no case of it
 abbrev meant : Said → Result ℕ NoFont
@@ -57,7 +58,14 @@ NoFontFromReadError_from_unique w κs a g g' r r' ws ws' = both_say w (λ p q. (
 pub NoFontFromNotAFont_from_unique : Determines from_image.ended (λ w. from_image.clauses w.𝓛 w.𝓜.mem w.𝓡.run)
 NoFontFromNotAFont_from_unique w κs a g g' r r' ws ws' = both_say w (λ p q. (p ∙ sym q, refl))
 
--- Whatever line meets the promise of `check`, and whatever bytes meet that of `text` at it: the bytes are the account's line for the text.
+-- a line that holds what was checked of a text: the bytes that are said of its like, and what is printed of it, are the account's line for the text
+line_of : (text : List ℕ) (line like : Line) (bytes : List ℕ) → said line.0 ≡ checked text → like ≡ line → bytes ≡ line_for (said like.0)
+    → (bytes ≡ line_for (checked text)) × (printing.ghosts.output line ≡ Some (line_for (checked text)))
+line_of text line like bytes p alike q =
+    (q ∙ ap (λ (l : Line). line_for (said l.0)) alike ∙ ap line_for p, ap (λ (s : Said). Some (line_for s)) p)
+
+-- Whatever line meets the promise of `check`, and whatever bytes meet that of `text` at it: the bytes are the account's line for the text, and so is what is
+-- printed of the line.
 pub line_printed : (w : World) (κs : Lfts check.ended.signature.lifetimes) (a : Args check.ended.signature κs) (g : (check.clauses w.𝓛 w.𝓜.mem w.𝓡.run κs a).ghost)
     (line : Res check.ended.signature κs) (ws : Lasts check.ended κs a)
     (ls : Lfts text.ended.signature.lifetimes) (b : Args text.ended.signature ls) (h : (text.clauses w.𝓛 w.𝓜.mem w.𝓡.run ls b).ghost)
@@ -65,9 +73,8 @@ pub line_printed : (w : World) (κs : Lfts check.ended.signature.lifetimes) (a :
     → b.0.now ≡ line
     → ent w.𝓤 (conj w.𝓤 ((check.clauses w.𝓛 w.𝓜.mem w.𝓡.run κs a).ensures g line (at_exit check.ended κs a ws))
     ((text.clauses w.𝓛 w.𝓜.mem w.𝓡.run ls b).ensures h bytes (at_exit text.ended ls b vs)))
-    (fact w.𝓤 (bytes.items ≡ line_for (checked a.0.now)))
-line_printed w κs a g line ws ls b h bytes vs of_it =
-    both_say w (λ p q. q ∙ ap (λ (line : Line). line_for (said line.0)) of_it ∙ ap line_for p)
+    (fact w.𝓤 ((bytes.items ≡ line_for (checked a.0.now)) × (printing.ghosts.output line ≡ Some (line_for (checked a.0.now)))))
+line_printed w κs a g line ws ls b h bytes vs of_it = both_say w (λ p q. line_of a.0.now line b.0.now bytes.items p of_it q)
 
 -- The same of the line of whatever outcome meets the promise of `count`.
 pub outcome_printed : (w : World) (κs : Lfts count.ended.signature.lifetimes) (a : Args count.ended.signature κs) (g : (count.clauses w.𝓛 w.𝓜.mem w.𝓡.run κs a).ghost)
@@ -77,6 +84,5 @@ pub outcome_printed : (w : World) (κs : Lfts count.ended.signature.lifetimes) (
     → b.0.now ≡ record { 0 = outcome }
     → ent w.𝓤 (conj w.𝓤 ((count.clauses w.𝓛 w.𝓜.mem w.𝓡.run κs a).ensures g outcome (at_exit count.ended κs a ws))
     ((text.clauses w.𝓛 w.𝓜.mem w.𝓡.run ls b).ensures h bytes (at_exit text.ended ls b vs)))
-    (fact w.𝓤 (bytes.items ≡ line_for (checked a.0.now)))
-outcome_printed w κs a g outcome ws ls b h bytes vs of_it =
-    both_say w (λ p q. q ∙ ap (λ (line : Line). line_for (said line.0)) of_it ∙ ap line_for p)
+    (fact w.𝓤 ((bytes.items ≡ line_for (checked a.0.now)) × (printing.ghosts.output (record { 0 = outcome }) ≡ Some (line_for (checked a.0.now)))))
+outcome_printed w κs a g outcome ws ls b h bytes vs of_it = both_say w (λ p q. line_of a.0.now (record { 0 = outcome }) b.0.now bytes.items p of_it q)

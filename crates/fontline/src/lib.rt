@@ -1,7 +1,10 @@
 // The line that fontcheck prints for a text.
 #![tactic(auto)]
 
-ghost use Rattle.std.specs.Prelude.{◌≡◌};
+#[cfg(test)]
+mod tests;
+
+ghost use Rattle.std.specs.Prelude.{◌≡◌, Some};
 ghost use Rattle.fontline.specs.Lines.{checked, line_for, number_of, place_of, said, IsText, IsImage};
 
 use answer::Refusal;
@@ -9,6 +12,7 @@ use arrayvec::{ArrayString, ArrayVec};
 use ihex::ReadError;
 use image::NotAFont;
 use itoa::Buffer;
+use std::fmt;
 
 // The longest line, `refused K at P` with ten digits each, and its LF.
 const LONGEST: usize = 33;
@@ -79,7 +83,7 @@ pub fn count(text: &[u8]) -> Result<u32, NoFont>
 pub struct Line(pub Result<u32, NoFont>);
 
 impl Line {
-    // The bytes of the line, its LF with them. No `Display`: it would promise them only where printing returns no error, and nothing says that it returns none.
+    // The bytes of the line, its LF with them, promised without condition: `Display` promises them only where printing returns no error.
     // They are no `ArrayString`, since what that leaves unused would be a second answer.
     pub fn text(&self) -> ArrayVec<u8, LONGEST>
         ensures { result.items ≡ line_for (said self.now.0) }
@@ -90,7 +94,7 @@ impl Line {
         bytes
     }
 
-    // The line as text.
+    // The line as text, for both of its uses.
     fn spelled(&self) -> ArrayString<LONGEST>
         ensures { result.bytes ≡ line_for (said self.now.0) }
     {
@@ -109,5 +113,13 @@ impl Line {
         }
         text.push_str("\n");
         text
+    }
+}
+
+impl fmt::Display for Line {
+    ghost output = { λ line. Some (line_for (said line.0)) };
+
+    fn fmt<W: fmt::Write>(&self, f: &mut fmt::Formatter<W>) -> fmt::Result {
+        f.write_str(self.spelled().as_str())
     }
 }
