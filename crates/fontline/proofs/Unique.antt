@@ -59,9 +59,9 @@ pub NoFontFromNotAFont_from_unique : Determines from_image.ended (λ w. from_ima
 NoFontFromNotAFont_from_unique w κs a g g' r r' ws ws' = both_say w (λ p q. (p ∙ sym q, refl))
 
 -- a line that holds what was checked of a text: the bytes that are said of its like, and what is printed of it, are the account's line for the text
-line_of : (text : List ℕ) (line like : Line) (bytes : List ℕ) → said line.0 ≡ checked text → like ≡ line → bytes ≡ line_for (said like.0)
-    → (bytes ≡ line_for (checked text)) × (printing.ghosts.output line ≡ Some (line_for (checked text)))
-line_of text line like bytes p alike q =
+line_of : (given : List ℕ) (line like : Line) (bytes : List ℕ) → said line.0 ≡ checked given → like ≡ line → bytes ≡ line_for (said like.0)
+    → (bytes ≡ line_for (checked given)) × (printing.ghosts.output line ≡ Some (line_for (checked given)))
+line_of given line like bytes p alike q =
     (q ∙ ap (λ (l : Line). line_for (said l.0)) alike ∙ ap line_for p, ap (λ (s : Said). Some (line_for s)) p)
 
 -- Whatever line meets the promise of `check`, and whatever bytes meet that of `text` at it: the bytes are the account's line for the text, and so is what is

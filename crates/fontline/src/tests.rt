@@ -1,5 +1,5 @@
 // What no promise says: that printing a line returns no error. Std's promise of a `Display` holds where none is returned, so a `fmt` that prints nothing
-// and returns one keeps it. The numbers are the guide's for such texts.
+// and returns one keeps it. Here are a line of a count and one of each refusal, by the numbers of the guide's table.
 use super::*;
 use std::fmt::Write;
 use std::process::Abort;
@@ -14,15 +14,24 @@ fn expect_printed(rt: &impl Abort, line: Line, want: &str) {
     assert_eq!(rt; line.text().as_slice(), want.as_bytes());
 }
 
+fn expect_refusal(rt: &impl Abort, refusal: ReadError, want: &str) {
+    expect_printed(rt, Line(Err(NoFont::Text(refusal))), want);
+}
+
 #[test]
 fn prints_each_line(rt: HostRuntime) {
     expect_printed(&rt, Line(Ok(0)), "cells 62 bytes 0\n");
     expect_printed(&rt, Line(Ok(8192)), "cells 62 bytes 8192\n");
     expect_printed(&rt, Line(Ok(u32::MAX)), "cells 62 bytes 4294967295\n");
-    let refusal = NoFont::Text(ReadError::TooLong);
-    expect_printed(&rt, Line(Err(refusal)), "refused 7 at 0\n");
-    let refusal = NoFont::Text(ReadError::BadCharacter(50));
-    expect_printed(&rt, Line(Err(refusal)), "refused 19 at 50\n");
+    expect_refusal(&rt, ReadError::NoRoom, "refused 6 at 0\n");
+    expect_refusal(&rt, ReadError::TooLong, "refused 7 at 0\n");
+    expect_refusal(&rt, ReadError::BadCharacter(50), "refused 19 at 50\n");
+    expect_refusal(&rt, ReadError::BadShape(44), "refused 20 at 44\n");
+    expect_refusal(&rt, ReadError::BadSum(88), "refused 8 at 88\n");
+    expect_refusal(&rt, ReadError::BadType(0), "refused 9 at 0\n");
+    expect_refusal(&rt, ReadError::PastEnd(0), "refused 10 at 0\n");
+    expect_refusal(&rt, ReadError::GivenTwice(44), "refused 11 at 44\n");
+    expect_refusal(&rt, ReadError::BadEnd(22528), "refused 12 at 22528\n");
     let refusal = NoFont::Image(NotAFont(1618));
     expect_printed(&rt, Line(Err(refusal)), "refused 13 at 1618\n");
 }
