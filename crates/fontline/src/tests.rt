@@ -1,5 +1,5 @@
 // What no promise says: that printing a line returns no error. Std's promise of a `Display` holds where none is returned, so a `fmt` that prints nothing
-// and returns one keeps it. Here are a line of a count and one of each refusal, by the numbers of the guide's table.
+// and returns one keeps it. Below are lines of counts and one line of each refusal, by the numbers of the guide's table.
 use super::*;
 use std::fmt::Write;
 use std::process::Abort;
